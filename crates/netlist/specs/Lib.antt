@@ -1,0 +1,4 @@
+pub mod Gates
+pub mod Signals
+pub mod Refusals
+pub mod Simulation
