@@ -1,0 +1,2 @@
+// Expansions of closed sheets into gates, with the template of any kind.
+pub mod expand;

@@ -1,0 +1,3 @@
+pub mod Products
+pub mod Outputs
+pub mod Running
