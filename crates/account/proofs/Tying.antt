@@ -1,4 +1,4 @@
-use Rattle.std.proofs.Common.{◌≡◌, ℕ, zero, suc, ◌+◌, ◌-◌, ◌<◌, ◌≤◌, Bool, true, false, ◌&&◌, eqb, ltb, leb, ◌⊎◌, List, [], ◌∷◌, ◌++◌, map, length, get_or, is_some, Some, None, Option, sym, refl, ap, ◌∙◌, subst, ⊎_elim, arith}
+use Rattle.std.proofs.Common.{◌≡◌, ℕ, zero, suc, ◌+◌, ◌-◌, ◌<◌, ◌≤◌, Bool, true, false, ◌&&◌, eqb, ltb, leb, List, [], ◌∷◌, ◌++◌, map, length, get_or, is_some, Some, None, Option, sym, refl, ap, ◌∙◌, subst, ⊎_elim, arith}
 use mathlib.Core.Path.{fun_ext}
 use Rattle.std.specs.List.{range_with_len}
 use Rattle.std.proofs.lemmas.List.{append_assoc, append-nil, length_push, length-map, map_push, get_or-map}
@@ -6,7 +6,7 @@ use Rattle.std.proofs.lemmas.List.FromFn.{length-range_with_len}
 use Rattle.std.proofs.lemmas.Bool.{ltb-true, leb-true, eqb-true, eq-eqb, cases_Bool, cases_eq, and_parts, and_from}
 use Rattle.account.specs.Words.{Pair, words, word, front, back}
 use Rattle.account.specs.Families.{family, size_of, depth_of_family, greatest}
-use Rattle.account.specs.Account.{Account, closed_sheet, nodes, joined, same, place_of, output_of, Covered, closing}
+use Rattle.account.specs.Account.{Account, closed_sheet, same, place_of, output_of, Covered, closing}
 use Rattle.account.specs.Measure.{deeper, deepened, depths, depth_at, depth_of}
 use Rattle.account.specs.Sound.{Accepts, Sound}
 use Rattle.account.proofs.Rows.{Row, no_row, column_row, join_row, fits, row_at, row_depth, all_of, covers, standing, family_stands, families_stand}

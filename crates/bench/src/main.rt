@@ -1,6 +1,7 @@
 // Times simulate and run. With no argument each is called once, and only what it computed is printed;
 // with a number, simulate is called that many times and run a hundred times as often, and the
 // nanoseconds of all calls are printed too.
+#![tactic(auto)]
 use anyhow::anyhow;
 use kinds::carry::Carries;
 use kinds::elements::Carry;

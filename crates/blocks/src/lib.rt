@@ -1,4 +1,5 @@
 // Blocks built on closed sheets: adders, comparators, Gray decoders and state machines.
+#![tactic(auto)]
 pub mod build;
 mod layout;
 mod nets;

@@ -60,7 +60,7 @@ impl Kind for Carries {
 
     ghost template = { Prim.search rules };
 
-    ghost formed = { Prim.search rules };
+    ghost well_formed = { Prim.search rules };
 
     ghost reaching = { Prim.search rules };
 

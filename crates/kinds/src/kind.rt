@@ -63,7 +63,7 @@ pub trait Kind {
 
     ghost template: { (l h : Self.Element) → shown gates results (bits l) (bits h) ≡ bits (times l h) };
 
-    ghost formed: { formed (length results) 0 gates ≡ true };
+    ghost well_formed: { formed (length results) 0 gates ≡ true };
 
     ghost reaching: { reach (length results) (length gates) results ≡ true };
 }

@@ -1,4 +1,6 @@
 // Element kinds: what a prefix network computes with.
+#![tactic(auto)]
+
 pub mod carry;
 pub mod elements;
 pub mod fold;

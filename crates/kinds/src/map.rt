@@ -38,7 +38,7 @@ impl Kind for Maps {
 
     ghost template = { λ l h. map_template l h };
 
-    ghost formed = { Prim.search rules };
+    ghost well_formed = { Prim.search rules };
 
     ghost reaching = { Prim.search rules };
 

@@ -45,7 +45,7 @@ impl Kind for Parities {
 
     ghost template = { Prim.search rules };
 
-    ghost formed = { Prim.search rules };
+    ghost well_formed = { Prim.search rules };
 
     ghost reaching = { Prim.search rules };
 

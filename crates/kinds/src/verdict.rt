@@ -78,7 +78,7 @@ impl Kind for Verdicts {
 
     ghost template = { Prim.search rules };
 
-    ghost formed = { Prim.search rules };
+    ghost well_formed = { Prim.search rules };
 
     ghost reaching = { Prim.search rules };
 

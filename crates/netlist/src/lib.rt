@@ -1,3 +1,4 @@
+#![tactic(auto)]
 // Netlists of small gates, and the values of their signals.
 pub mod gate;
 pub mod refusal;

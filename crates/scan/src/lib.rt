@@ -1,2 +1,3 @@
 // Runs of closed sheets over the elements of any kind.
+#![tactic(auto)]
 pub mod run;

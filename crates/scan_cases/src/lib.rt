@@ -1,4 +1,5 @@
 // Worked cases of gates, element kinds, runs and expansions.
+#![tactic(auto)]
 #[cfg(test)]
 mod expand_cases;
 #[cfg(test)]

@@ -24,9 +24,9 @@ returns-then-total-gates g c =
     c.if-nets-n.false ∙ ap (λ k. (k + c.joins-joins.result) * c.width-w.result) ec ∙ ap (λ k. (a.columns + k) * c.width-w.result) ej ∙ ap (λ k. nodes a * k) ew in
     let cols : c.columns-n.result * c.width-w.result ≡ a.columns * length rs =
     ap (λ k. k * c.width-w.result) ec ∙ ap (λ k. a.columns * k) ew in
-    let kept : used ≤ good_from m (take used gates) = omega (arith, c.good-gates-good.ensures) in
+    let kept : used ≤ good_from m (take used gates) = omega (arith, c.good_gates-good.ensures) in
     let below : a.columns * length rs ≤ prefix_len (λ k. ltb k (m + used)) (column_nets rs a nets) =
-    subst (λ n. n ≤ prefix_len (λ k. ltb k (m + used)) (take n nets)) cols (omega (arith, c.nets-below-below.ensures)) in
+    subst (λ n. n ≤ prefix_len (λ k. ltb k (m + used)) (take n nets)) cols (omega (arith, c.nets_below-below.ensures)) in
     admit_short t rs a m gates used nets (omega arith) c.if-used-gates.false (omega arith) wide kept below
     (⊎_elim
     (λ h. or_left (ltb (length gates) (grown_to t a used)) (ltb 1048576 (grown_to t a used)) (lt-ltb (length gates) (grown_to t a used) (omega (arith, total))))

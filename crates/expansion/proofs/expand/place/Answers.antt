@@ -13,11 +13,11 @@ returns g c =
     let fw : high + c.width-w.result - high ≡ w = omega arith in
     let size : c.args.slot + c.size-size.result - c.args.slot ≡ length g.K.Kind.gates = omega arith in
     record {
-      gates = part_written c.args.slot (c.args.slot + c.size-size.result - c.args.slot) c.args.gates.now c.place-gates.new.gates
+      gates = part_written c.args.slot (c.args.slot + c.size-size.result - c.args.slot) c.args.gates.now c.place_gates.new.gates
           (map (placed (slots w nets low) (slots w nets high) base) g.K.Kind.gates)
-          (c.place-gates.ensures
+          (c.place_gates.ensures
           ∙ ap (λ k. map (placed (take k (drop low nets)) (take (high + c.width-w.result - high) (drop high nets)) base) g.K.Kind.gates) ew
           ∙ ap (λ k. map (placed (slots w nets low) (take k (drop high nets)) base) g.K.Kind.gates) fw)
           (length-map g.K.Kind.gates (placed (slots w nets low) (slots w nets high) base) ∙ sym size);
-      nets = c.place-nets.ensures;
+      nets = c.place_nets.ensures;
     }

@@ -13,8 +13,8 @@ length-slots w p xs h =
     let e : p + w - p ≡ w = omega arith in
     ap (λ k. length (take k (drop p xs))) e ∙ length-take-le w (drop p xs) (omega (arith, length-drop p xs))
 
-pub pin-net-requires : goal.pin-net-requires
-pin-net-requires g c =
+pub pin_net-requires : goal.pin_net-requires
+pin_net-requires g c =
     let w : ℕ = length g.K.Kind.results in
     let at = reach_at w (length g.K.Kind.gates) 256 g.K.Kind.results c.loop-b.b (Low 0) g.met.K.Kind.reaching (omega arith) c.requires.most in
     let low = length-slots c.width-w.result c.args.low c.loop-b.nets (omega (arith, c.loop-b.invariant.2)) in
@@ -37,15 +37,15 @@ loop-b-preserved g c =
     let fw : c.args.high + c.width-w.result - c.args.high ≡ w = omega arith in
     let low = ap (λ k. take k (drop c.args.low c.loop-b.nets)) ew ∙ slots_kept w c.args.low c.args.at c.loop-b.nets was c.requires.low i j before in
     let high = ap (λ k. take k (drop c.args.high c.loop-b.nets)) fw ∙ slots_kept w c.args.high c.args.at c.loop-b.nets was c.requires.high i j before in (
-      put_more (net (slots w was c.args.low) (slots w was c.args.high) c.args.base) was c.loop-b.nets g.K.Kind.results c.args.at c.loop-b.b (Low 0) c.pin-net.result
+      put_more (net (slots w was c.args.low) (slots w was c.args.high) c.args.base) was c.loop-b.nets g.K.Kind.results c.args.at c.loop-b.b (Low 0) c.pin_net.result
           lt (omega arith)
-          (c.pin-net.ensures
+          (c.pin_net.ensures
           ∙ ap (λ l. net l (take (c.args.high + c.width-w.result - c.args.high) (drop c.args.high c.loop-b.nets)) c.args.base c.result.result) low
           ∙ ap (λ l. net (slots w was c.args.low) l c.args.base c.result.result) high
           ∙ ap (net (slots w was c.args.low) (slots w was c.args.high) c.args.base) c.result.ensures)
           c.loop-b.invariant.0,
-      drop-set-lt (c.args.at + w) c.loop-b.nets (c.args.at + c.loop-b.b) c.pin-net.result (omega arith) ∙ c.loop-b.invariant.1,
-      length-set c.loop-b.nets (c.args.at + c.loop-b.b) c.pin-net.result ∙ c.loop-b.invariant.2,
+      drop-set-lt (c.args.at + w) c.loop-b.nets (c.args.at + c.loop-b.b) c.pin_net.result (omega arith) ∙ c.loop-b.invariant.1,
+      length-set c.loop-b.nets (c.args.at + c.loop-b.b) c.pin_net.result ∙ c.loop-b.invariant.2,
     )
 
 pub returns : goal.returns

@@ -4,14 +4,14 @@ use Rattle.netlist.specs.Gates.{good_from}
 use Rattle.netlist.proofs.Rules.{good_yes, good_no}
 use Rattle.netlist.proofs.gate.good_gates.Goals as goal
 
-pub returns-then-not-is-good : goal.returns-then-not-is-good
-returns-then-not-is-good c =
-    let e = good_no c.args.m c.args.gates.now c.loop-k.k _ c.loop-k-test.true (sym c.if-not-is-good.ensures) in
+pub returns-then-not-is_good : goal.returns-then-not-is_good
+returns-then-not-is_good c =
+    let e = good_no c.args.m c.args.gates.now c.loop-k.k _ c.loop-k-test.true (sym c.if-not-is_good.ensures) in
     omega (arith, c.loop-k.invariant)
 
 pub loop-k-preserved : goal.loop-k-preserved
 loop-k-preserved c =
-    let e = good_yes c.args.m c.args.gates.now c.loop-k.k _ c.loop-k-test.true (sym c.if-not-is-good.ensures) in
+    let e = good_yes c.args.m c.args.gates.now c.loop-k.k _ c.loop-k-test.true (sym c.if-not-is_good.ensures) in
     omega (arith, c.loop-k.invariant)
 
 pub returns : goal.returns

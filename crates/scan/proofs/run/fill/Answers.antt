@@ -6,7 +6,7 @@ use Rattle.scan.proofs.Running.{pair_is, filled_none, filled_more, filled_all}
 use Rattle.scan.proofs.run.fill.Goals as goal
 
 pub loop-r-init : goal.loop-r-init
-loop-r-init g c = filled_none g.K.Kind.times g.K.Kind.neutral c.args.elements.now (account_of c.args.closed.now).joins c.copy-from-slice.new.self _ c.copy-from-slice.ensures.after
+loop-r-init g c = filled_none g.K.Kind.times g.K.Kind.neutral c.args.elements.now (account_of c.args.closed.now).joins c.copy_from_slice.new.self _ c.copy_from_slice.ensures.after
 
 pub loop-r-preserved : goal.loop-r-preserved
 loop-r-preserved g c =

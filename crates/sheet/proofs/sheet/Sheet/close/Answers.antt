@@ -13,7 +13,7 @@ returns-in-None c =
 pub loop-c-preserved : goal.loop-c-preserved
 loop-c-preserved c =
     let s = c.args.self.now in
-    let here : is_some (output_of (account s) c.loop-c.c) ≡ true = ap is_some (sym c.in-default.ensures.node) in (
+    let here : is_some (output_of (account s) c.loop-c.c) ≡ true = ap is_some (sym c.in_default.ensures.node) in (
       below_more _ _ c.loop-c.invariant.0 here,
       sym (close_more (account s) c.loop-c.c s.columns c.loop-c-test.true here) ∙ c.loop-c.invariant.1,
     )

@@ -11,7 +11,7 @@ use Rattle.sheet.specs.View.{account}
 use Rattle.sheet.specs.declared.sheet.Sheet.{Sheet}
 use Rattle.sheet.proofs.Standing.{count_is, depth_is}
 use Rattle.sheet.proofs.sheet.Sheet.depth.Goals as goal
-use Rattle.sheet.proofs.sheet.Sheet.depth.Goals.{in-Some, in-default}
+use Rattle.sheet.proofs.sheet.Sheet.depth.Goals.{in-Some, in_default}
 
 zeros : (m k : ℕ) → ◌≡◌ {A = ℕ} (get_or (replicate m 0) k 0) 0
 zeros zero k = refl
@@ -73,9 +73,9 @@ loop-c-preserved c =
           w.deepest-is ∙ w.max-deepest.ensures
           ∙ ap (max c.loop-c.deepest)
           (c.loop-v.invariant.2 w.in-Some.v (omega (arith, in_table s i w.in-Some.v w.in-Some.ensures.node)) ∙ ap (depth_at D) w.in-Some.ensures.node)
-      | in-default w ↦
+      | in_default w ↦
           let same : c.loop-c.deepest ≡ max c.loop-c.deepest 0 = omega arith in
-          w.deepest-is ∙ same ∙ ap (λ o. max c.loop-c.deepest (depth_at D o)) w.in-default.ensures.node
+          w.deepest-is ∙ same ∙ ap (λ o. max c.loop-c.deepest (depth_at D o)) w.in_default.ensures.node
     ] in
     ap (λ (m : ℕ). max m rest) more ∙ sym (greatest_more g s.columns i c.loop-c.deepest c.loop-c-test.true) ∙ c.loop-c.invariant
 

@@ -20,7 +20,7 @@ loop-v-preserved c =
     let s = c.args.self.now in
     let g : ℕ → ℕ = λ v. takers v (account s).joins in
     let rest = greatest (map g (drop (c.loop-v.v + 1) (range_with_len 0 s.table.count))) in
-    ap (λ (m : ℕ). max m rest) (c.max-most.ensures ∙ ap (max c.loop-v.most) c.takers-of.ensures)
+    ap (λ (m : ℕ). max m rest) (c.max-most.ensures ∙ ap (max c.loop-v.most) c.takers_of.ensures)
     ∙ sym (greatest_more g s.table.count c.loop-v.v c.loop-v.most c.loop-v-test.true)
     ∙ c.loop-v.invariant
 

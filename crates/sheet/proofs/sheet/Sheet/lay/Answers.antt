@@ -16,8 +16,8 @@ use Rattle.sheet.proofs.sheet.Sheet.lay.Goals as goal
 none_yet : (s : Sheet) (k : ℕ) → k ≡ length (account s).joins → k ≤ 0 → (account s).joins ≡ []
 none_yet s k e h = pairs_none s.columns s.table.nodes s.table.count (omega (arith, count_is s)) (omega (arith, s.table.sized))
 
-pub lay-levels-requires : goal.lay-levels-requires
-lay-levels-requires c =
+pub lay_levels-requires : goal.lay_levels-requires
+lay_levels-requires c =
     let s = c.args.self.now in
     let l : s.columns - 0 ≡ s.columns = omega arith in (
       none_yet s c.joins-joins.result c.joins-joins.ensures.0 c.if-joins-gt0.false,
@@ -27,10 +27,10 @@ lay-levels-requires c =
 pub returns : goal.returns
 returns c =
     let s = c.args.self.now in let f = c.args.family in let n = s.columns in
-    let t : Sheet = c.lay-levels.new.self in
-    let w = c.lay-levels.ensures.wide in
+    let t : Sheet = c.lay_levels.new.self in
+    let w = c.lay_levels.ensures.wide in
     let is = c.in-Some.ensures.1 in
-    let j : (account t).joins ≡ family f n = c.lay-levels.ensures.joins ∙ ap (λ (g : ℕ). family g n) is in
+    let j : (account t).joins ≡ family f n = c.lay_levels.ensures.joins ∙ ap (λ (g : ℕ). family g n) is in
     let l : 1 ≤ f = omega (arith, is, number_least c.in-Some.chosen) in
     let u : f ≤ 4 = omega (arith, is, number_most c.in-Some.chosen) in
     let made : account t ≡ family_account f n = λ i. record { columns = w i; joins = j i } in

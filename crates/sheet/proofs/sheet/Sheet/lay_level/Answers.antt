@@ -14,8 +14,8 @@ loop-i-init c =
     let level = get_or (levels (number_of c.args.family) c.args.k) c.args.turn idle in
     (refl, ap (λ (b : List ℕ). fold (lay_column s.columns level b) (laying s c.args.current.now) (range_with_len 0 s.columns)) c.requires.1.0)
 
-pub lay-column-requires : goal.lay-column-requires
-lay-column-requires c =
+pub lay_column-requires : goal.lay_column-requires
+lay_column-requires c =
     let n = c.args.self.now.columns in
     let level = get_or (levels (number_of c.args.family) c.args.k) c.args.turn idle in
     let b = c.args.before.now in
@@ -34,9 +34,9 @@ loop-i-preserved c =
     let b = c.args.before.now in
     let i = c.loop-i.i in
     let s = laying c.loop-i.self c.loop-i.current in (
-      c.lay-column.ensures.wide ∙ c.loop-i.invariant.0,
+      c.lay_column.ensures.wide ∙ c.loop-i.invariant.0,
       ap (λ (t : Laying). fold (lay_column n level b) t (drop (i + 1) (range_with_len 0 n)))
-          (c.lay-column.ensures.joins ∙ ap (λ (m : ℕ). lay_column m level b s i) c.loop-i.invariant.0)
+          (c.lay_column.ensures.joins ∙ ap (λ (m : ℕ). lay_column m level b s i) c.loop-i.invariant.0)
           ∙ sym (column_more n level b s i c.loop-i-test.true)
           ∙ c.loop-i.invariant.1,
     )

@@ -29,11 +29,11 @@ loop-turn-init c =
     let n = c.args.self.now.columns in
     let own : c.loop-i.current ≡ range_with_len 0 n =
     fill_by_all (λ (j : ℕ). j) c.loop-i.current n 0 (omega (arith, c.requires.1.1)) (λ j h. c.loop-i.invariant j (omega arith)) ∙ map-id (range_with_len 0 n) in
-    (refl, starts (number_of c.args.family) n c.digit-count-k.result c.loop-i.current (account c.args.self.now).joins own c.requires.0 c.digit-count-k.ensures.counted)
+    (refl, starts (number_of c.args.family) n c.digit_count-k.result c.loop-i.current (account c.args.self.now).joins own c.requires.0 c.digit_count-k.ensures.counted)
 
-pub lay-level-requires : goal.lay-level-requires
-lay-level-requires c =
-    let n = c.args.self.now.columns in let f = number_of c.args.family in let k = c.digit-count-k.result in
+pub lay_level-requires : goal.lay_level-requires
+lay_level-requires c =
+    let n = c.args.self.now.columns in let f = number_of c.args.family in let k = c.digit_count-k.result in
     let t = c.loop-turn.turn in
     let s = laying c.loop-turn.self c.loop-turn.current in
     let w = c.loop-turn.invariant.0 in
@@ -41,28 +41,28 @@ lay-level-requires c =
     let stands = family_stands_lem f n (number_least c.args.family) (number_most c.args.family) (omega arith) (omega arith) in
     let S : List Pair → Type 0 = λ js. Sound n js in
     let C : ℕ → Type 0 = λ m. Sound m (lay_level m s (get_or (levels f k) t idle)).joins in (
-      (c.digit-count-k.ensures.few, turns),
-      (c.copy-from-slice.ensures.after, omega (arith, w, c.requires.1.1)),
+      (c.digit_count-k.ensures.few, turns),
+      (c.copy_from_slice.ensures.after, omega (arith, w, c.requires.1.1)),
       subst C (sym w) (level_sound n (levels f k) s t turns (subst S (sym c.loop-turn.invariant.1) stands.sound)),
     )
 
 pub loop-turn-preserved : goal.loop-turn-preserved
 loop-turn-preserved c =
-    let n = c.args.self.now.columns in let f = number_of c.args.family in let k = c.digit-count-k.result in
+    let n = c.args.self.now.columns in let f = number_of c.args.family in let k = c.digit_count-k.result in
     let t = c.loop-turn.turn in
     let s = laying c.loop-turn.self c.loop-turn.current in
     let w = c.loop-turn.invariant.0 in
     let turns : t < length (levels f k) = omega arith in (
-      c.lay-level.ensures.wide ∙ w,
+      c.lay_level.ensures.wide ∙ w,
       ap (λ (u : Laying). (fold (lay_level n) u (drop (t + 1) (levels f k))).joins)
-          (c.lay-level.ensures.joins ∙ ap (λ (m : ℕ). lay_level m s (get_or (levels f k) t idle)) w)
+          (c.lay_level.ensures.joins ∙ ap (λ (m : ℕ). lay_level m s (get_or (levels f k) t idle)) w)
           ∙ ap (λ (u : Laying). u.joins) (sym (level_more n (levels f k) s t turns))
           ∙ c.loop-turn.invariant.1,
     )
 
 pub returns : goal.returns
 returns c =
-    let n = c.args.self.now.columns in let f = number_of c.args.family in let k = c.digit-count-k.result in
+    let n = c.args.self.now.columns in let f = number_of c.args.family in let k = c.digit_count-k.result in
     let s = laying c.loop-turn.self c.loop-turn.current in
     record {
       joins = ap (λ (u : Laying). u.joins) (sym (levels_all n (levels f k) s c.loop-turn.turn (omega arith))) ∙ c.loop-turn.invariant.1;

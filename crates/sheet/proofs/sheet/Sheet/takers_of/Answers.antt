@@ -7,7 +7,7 @@ use Rattle.sheet.specs.View.{account}
 use Rattle.sheet.specs.declared.sheet.Sheet.{Sheet}
 use Rattle.sheet.proofs.Standing.{count_is, operands_are}
 use Rattle.sheet.proofs.sheet.Sheet.takers_of.Goals as goal
-use Rattle.sheet.proofs.sheet.Sheet.takers_of.Goals.{then-taken-by, else-taken-by}
+use Rattle.sheet.proofs.sheet.Sheet.takers_of.Goals.{then-taken_by, else-taken_by}
 
 -- one join more
 one_more : (s : Sheet) (node v : ℕ) → s.columns ≤ v → v < s.table.count →
@@ -24,12 +24,12 @@ loop-v-preserved c =
     let s = c.args.self.now in let v = c.loop-v.v in
     let pair = pair_of (at s.table.nodes v) in
     let more = one_more s c.args.node v c.loop-v.auto.v c.loop-v-test.true in
-    elim c.if-taken-by.branch [
-      | then-taken-by w ↦
-          let one : ◌≡◌ {A = ℕ} (cond (takes c.args.node pair) 1 0) 1 = rw (sym c.taken-by.ensures ∙ w.if-taken-by.true) in
+    elim c.if-taken_by.branch [
+      | then-taken_by w ↦
+          let one : ◌≡◌ {A = ℕ} (cond (takes c.args.node pair) 1 0) 1 = rw (sym c.taken_by.ensures ∙ w.if-taken_by.true) in
           (omega (arith, w.takers-is, c.loop-v.invariant.0), omega (arith, w.takers-is, c.loop-v.invariant.1, more, one))
-      | else-taken-by w ↦
-          let none : ◌≡◌ {A = ℕ} (cond (takes c.args.node pair) 1 0) 0 = rw (sym c.taken-by.ensures ∙ w.if-taken-by.false) in
+      | else-taken_by w ↦
+          let none : ◌≡◌ {A = ℕ} (cond (takes c.args.node pair) 1 0) 0 = rw (sym c.taken_by.ensures ∙ w.if-taken_by.false) in
           (omega (arith, w.takers-is, c.loop-v.invariant.0), omega (arith, w.takers-is, c.loop-v.invariant.1, more, none))
     ]
 
