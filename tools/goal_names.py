@@ -10,7 +10,7 @@ import glob
 import re
 import sys
 
-STD = {"copy_from_slice", "as_slice", "is_none", "is_some", "map_err", "split_at", "split_at_mut", "as_mut", "as_ref", "unwrap_or", "push_str", "to_string", "checked_add", "in_default"}
+STD = {"copy_from_slice", "as_slice", "is_none", "is_some", "map_err", "split_at", "split_at_mut", "as_mut", "as_ref", "unwrap_or", "push_str", "to_string", "checked_add", "in_default", "in_ok", "in_err", "from_residual", "invariant_of", "overflow_sub", "overflow_add", "overflow_mul", "overflow_cast", "overflow_step", "overflow_shl", "overflow_shr", "offset_bounds", "slice_bounds", "nonzero_div", "nonzero_rem", "type_inv"}
 
 
 def names():

@@ -122,19 +122,19 @@ spelled_columns n xs count e le cs v h =
 
 -- what a sheet of n columns owes of its table, and that a table of columns alone meets it
 abbrev Owed : ℕ → Table → Type 0
-Owed n t =
-    ((1 ≤ n) × (n ≤ 64))
-    × (((n ≤ t.count) × (t.count ≤ n + 1024))
-    × (Founded n t.nodes t.count × (Upward n t.nodes t.count × (Spelled n t.nodes t.count × Unit {0}))))
+Owed n t = record {
+  wide : (1 ≤ n) × (n ≤ 64);
+  room : (n ≤ t.count) × (t.count ≤ n + 1024);
+  founded : Founded n t.nodes t.count;
+  upward : Upward n t.nodes t.count;
+  spelled : Spelled n t.nodes t.count;
+}
 
 pub fresh : (n : ℕ) (t : Table) → 1 ≤ n → n ≤ 64 → t.count ≡ n → ((v : ℕ) → v < n → at t.nodes v ≡ column v) → Owed n t
-fresh n t low high e spans = (
-  (low, high),
-  (
-    (omega arith, omega arith),
-    (
-      (λ v a b. absurd (omega arith)),
-      (upward_columns n t.nodes t.count e spans, (spelled_columns n t.nodes t.count e (omega (arith, t.sized)) spans, tt)),
-    ),
-  ),
-)
+fresh n t low high e spans = record {
+  wide = (low, high);
+  room = (omega arith, omega arith);
+  founded = λ v a b. absurd (omega arith);
+  upward = upward_columns n t.nodes t.count e spans;
+  spelled = spelled_columns n t.nodes t.count e (omega (arith, t.sized)) spans;
+}

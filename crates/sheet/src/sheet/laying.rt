@@ -1,5 +1,5 @@
 ghost use Rattle.std.specs.Prelude.{◌≡◌, ◌<◌, ◌≤◌, [], length, IfOk, OnOk, slice_index_or};
-ghost use Rattle.account.specs.Families.{idle, family as joinsOf, lay_column, lay_level, levels, size_of, depth_of_family};
+ghost use Rattle.account.specs.Families.{idle, family as joins_of, lay_column, lay_level, levels, size_of, depth_of_family};
 ghost use Rattle.account.specs.Account.{laid, closed, closed_sheet};
 ghost use Rattle.account.specs.Measure.{depth_of};
 ghost use Rattle.account.specs.Sound.{Sound};
@@ -23,8 +23,8 @@ impl Sheet {
         before: &[usize],
         current: &mut [usize],
     )
-        requires k_bound { (k ≤ 6) × (turn < length (levels (number_of family) k)) }
-        requires i_lt_columns { (i < self.old.columns) × ((length before.now ≡ self.old.columns) × (length current.old ≡ self.old.columns)) }
+        requires level { (k ≤ 6) × (turn < length (levels (number_of family) k)) }
+        requires fits { (i < self.old.columns) × ((length before.now ≡ self.old.columns) × (length current.old ≡ self.old.columns)) }
         requires sound { Sound self.old.columns (lay_column self.old.columns (slice_index_or (levels (number_of family) k) turn idle) before.now (laying self.old current.old) i).joins }
         ensures joins { laying self.new current.new ≡ lay_column self.old.columns (slice_index_or (levels (number_of family) k) turn idle) before.now (laying self.old current.old) i }
         ensures wide { self.new.columns ≡ self.old.columns }
@@ -45,8 +45,8 @@ impl Sheet {
         before: &[usize],
         current: &mut [usize],
     )
-        requires k_bound { (k ≤ 6) × (turn < length (levels (number_of family) k)) }
-        requires before_value { (before.now ≡ current.old) × (length current.old ≡ self.old.columns) }
+        requires level { (k ≤ 6) × (turn < length (levels (number_of family) k)) }
+        requires current { (before.now ≡ current.old) × (length current.old ≡ self.old.columns) }
         requires sound { Sound self.old.columns (lay_level self.old.columns (laying self.old current.old) (slice_index_or (levels (number_of family) k) turn idle)).joins }
         ensures joins { laying self.new current.new ≡ lay_level self.old.columns (laying self.old current.old) (slice_index_or (levels (number_of family) k) turn idle) }
         ensures wide { self.new.columns ≡ self.old.columns }
@@ -59,9 +59,9 @@ impl Sheet {
 
     // All levels of the family on a bare sheet.
     fn lay_levels(&mut self, family: Family, before: &mut [usize], current: &mut [usize])
-        requires self_value { (account self.old).joins ≡ [] }
-        requires before_len { (length before.old ≡ self.old.columns) × (length current.old ≡ self.old.columns) }
-        ensures joins { (account self.new).joins ≡ joinsOf (number_of family) self.old.columns }
+        requires bare { (account self.old).joins ≡ [] }
+        requires fits { (length before.old ≡ self.old.columns) × (length current.old ≡ self.old.columns) }
+        ensures joins { (account self.new).joins ≡ joins_of (number_of family) self.old.columns }
         ensures wide { self.new.columns ≡ self.old.columns }
     {
         let n = self.columns;

@@ -3,14 +3,14 @@ use Rattle.sheet.specs.Closing.{account_of}
 use Rattle.blocks.proofs.Writing.{in_list}
 use Rattle.blocks.proofs.nets.net_at.Goals as goal
 
-pub overflow-mul-result : goal.overflow-mul-result
-overflow-mul-result c = omega (arith, in_list (account_of c.args.closed.now) c.args.i c.in-Some.node c.args.w c.args.nets.now c.requires.nets c.in-Some.ensures.node)
+pub overflow_mul-result : goal.overflow_mul-result
+overflow_mul-result c = omega (arith, in_list (account_of c.args.closed.now) c.args.i c.in-Some.node c.args.w c.args.nets.now c.requires.nets c.in-Some.ensures.node)
 
-pub overflow-add-result : goal.overflow-add-result
-overflow-add-result c = omega (arith, in_list (account_of c.args.closed.now) c.args.i c.in-Some.node c.args.w c.args.nets.now c.requires.nets c.in-Some.ensures.node)
+pub overflow_add-result : goal.overflow_add-result
+overflow_add-result c = omega (arith, in_list (account_of c.args.closed.now) c.args.i c.in-Some.node c.args.w c.args.nets.now c.requires.nets c.in-Some.ensures.node)
 
-pub offset-bounds-nets-node : goal.offset-bounds-nets-node
-offset-bounds-nets-node c = omega (arith, in_list (account_of c.args.closed.now) c.args.i c.in-Some.node c.args.w c.args.nets.now c.requires.nets c.in-Some.ensures.node)
+pub offset_bounds-nets-node : goal.offset_bounds-nets-node
+offset_bounds-nets-node c = omega (arith, in_list (account_of c.args.closed.now) c.args.i c.in-Some.node c.args.w c.args.nets.now c.requires.nets c.in-Some.ensures.node)
 
 pub bounds-nets-node : goal.bounds-nets-node
 bounds-nets-node c = omega (arith, in_list (account_of c.args.closed.now) c.args.i c.in-Some.node c.args.w c.args.nets.now c.requires.nets c.in-Some.ensures.node)

@@ -23,12 +23,12 @@ returns g c =
     let fits : Templated g.K.Kind.times g.K.Kind.bits t rs =
     record { wide = met.wide; template = met.template; formed = met.formed; reaching = met.reaching } in
     let ordered = ordered_is c.args.closed.now.sheet.now in
-    let ok : number c.in-ok-grown.grown ≡ admitted t rs a m gates used nets = sym (ap count c.in-ok-grown.was) ∙ c.admit.ensures in
-    let answer : (number c.in-ok-grown.grown, gs, ns) ≡ expanded t rs a m gates used nets =
-    expanded_ok t rs a m gates used nets c.in-ok-grown.grown gs ns ok c.append.ensures.gates c.append.ensures.nets in
-    let done : (total : ℕ) → count (Ok c.in-ok-grown.grown) ≡ number total → expanded t rs a m gates used nets ≡ (number total, gs, ns) =
+    let ok : number c.in_ok-grown.grown ≡ admitted t rs a m gates used nets = sym (ap count c.in_ok-grown.was) ∙ c.admit.ensures in
+    let answer : (number c.in_ok-grown.grown, gs, ns) ≡ expanded t rs a m gates used nets =
+    expanded_ok t rs a m gates used nets c.in_ok-grown.grown gs ns ok c.append.ensures.gates c.append.ensures.nets in
+    let done : (total : ℕ) → count (Ok c.in_ok-grown.grown) ≡ number total → expanded t rs a m gates used nets ≡ (number total, gs, ns) =
     λ total e. sym answer ∙ ap (λ (r : Answer). (r, gs, ns)) e in
-    let computes : (total : ℕ) → count (Ok c.in-ok-grown.grown) ≡ number total
+    let computes : (total : ℕ) → count (Ok c.in_ok-grown.grown) ≡ number total
     → Computes g.K.Kind.times g.K.Kind.neutral g.K.Kind.bits (length rs) a m (take used gates) nets (take total gs) ns =
     λ total e.
     expansion_computes g.K.Kind.times g.K.Kind.neutral g.K.Kind.bits t rs laws fits a m gates used nets total gs ns ordered (done total e) in

@@ -4,8 +4,8 @@ use Rattle.account.specs.Words.{Pair}
 use Rattle.sheet.proofs.Keeping.{pairs_none, fresh}
 use Rattle.sheet.proofs.sheet.Sheet.bare.Goals as goal
 
-pub invariant-of-result : goal.invariant-of-result
-invariant-of-result c = fresh 1 c.columns.result (omega arith) (omega arith) c.columns.ensures.counted c.columns.ensures.spans
+pub invariant_of-result : goal.invariant_of-result
+invariant_of-result c = fresh 1 c.columns.result (omega arith) (omega arith) c.columns.ensures.counted c.columns.ensures.spans
 
 pub returns : goal.returns
 returns c =

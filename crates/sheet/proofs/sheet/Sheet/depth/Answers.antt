@@ -53,8 +53,8 @@ loop-c-init c = omega arith
 in_table : (s : Sheet) (c v : ℕ) → Some v ≡ output_of (account s) c → v < s.table.count
 in_table s c v e = omega (arith, output_node (account s) c v (sym e), count_is s)
 
-pub offset-bounds-depths-v-in-Some : goal.offset-bounds-depths-v-in-Some
-offset-bounds-depths-v-in-Some c =
+pub offset_bounds-depths-v-in-Some : goal.offset_bounds-depths-v-in-Some
+offset_bounds-depths-v-in-Some c =
     let s = c.args.self.now in
     let h : c.in-Some.v < 1088 = omega (arith, in_table s c.loop-c.c c.in-Some.v c.in-Some.ensures.node) in search rules
 

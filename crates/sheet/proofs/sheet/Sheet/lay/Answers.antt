@@ -19,10 +19,10 @@ none_yet s k e h = pairs_none s.columns s.table.nodes s.table.count (omega (arit
 pub lay_levels-requires : goal.lay_levels-requires
 lay_levels-requires c =
     let s = c.args.self.now in
-    let l : s.columns - 0 ≡ s.columns = omega arith in (
-      none_yet s c.joins-joins.result c.joins-joins.ensures.0 c.if-joins-gt0.false,
-      (length-take-le (s.columns - 0) _ (omega arith) ∙ l, length-take-le (s.columns - 0) _ (omega arith) ∙ l),
-    )
+    let l : s.columns - 0 ≡ s.columns = omega arith in record {
+      bare = none_yet s c.joins-joins.result c.joins-joins.ensures.0 c.if-joins-gt0.false;
+      fits = (length-take-le (s.columns - 0) _ (omega arith) ∙ l, length-take-le (s.columns - 0) _ (omega arith) ∙ l);
+    }
 
 pub returns : goal.returns
 returns c =

@@ -12,7 +12,7 @@ unfolding lay_level
 loop-i-init c =
     let s = c.args.self.now in
     let level = get_or (levels (number_of c.args.family) c.args.k) c.args.turn idle in
-    (refl, ap (λ (b : List ℕ). fold (lay_column s.columns level b) (laying s c.args.current.now) (range_with_len 0 s.columns)) c.requires.1.0)
+    (refl, ap (λ (b : List ℕ). fold (lay_column s.columns level b) (laying s c.args.current.now) (range_with_len 0 s.columns)) c.requires.current.0)
 
 pub lay_column-requires : goal.lay_column-requires
 lay_column-requires c =
@@ -21,11 +21,11 @@ lay_column-requires c =
     let b = c.args.before.now in
     let s = laying c.loop-i.self c.loop-i.current in
     let S : Laying → Type 0 = λ t. Sound n t.joins in
-    let C : ℕ → Type 0 = λ m. Sound m (lay_column m level b s c.loop-i.i).joins in (
-      c.requires.0,
-      (omega (arith, c.loop-i.invariant.0), (omega (arith, c.loop-i.invariant.0, ap length c.requires.1.0, c.requires.1.1), omega (arith, c.loop-i.invariant.0, c.requires.1.1))),
-      subst C (sym c.loop-i.invariant.0) (column_sound n level b s c.loop-i.i c.loop-i-test.true (subst S (sym c.loop-i.invariant.1) c.requires.2)),
-    )
+    let C : ℕ → Type 0 = λ m. Sound m (lay_column m level b s c.loop-i.i).joins in record {
+      level = c.requires.level;
+      fits = (omega (arith, c.loop-i.invariant.0), (omega (arith, c.loop-i.invariant.0, ap length c.requires.current.0, c.requires.current.1), omega (arith, c.loop-i.invariant.0, c.requires.current.1)));
+      sound = subst C (sym c.loop-i.invariant.0) (column_sound n level b s c.loop-i.i c.loop-i-test.true (subst S (sym c.loop-i.invariant.1) c.requires.sound));
+    }
 
 pub loop-i-preserved : goal.loop-i-preserved
 loop-i-preserved c =

@@ -16,7 +16,7 @@ pub loop-i-preserved : goal.loop-i-preserved
 loop-i-preserved c =
     below_more _ _
     (λ j h. let ne : j ≢ c.loop-i.i = omega arith in rw get_or-set_other (c.loop-i.invariant j h))
-    (let lt : c.loop-i.i < length c.loop-i.current = omega (arith, c.requires.1.1) in rw get_or-set_same)
+    (let lt : c.loop-i.i < length c.loop-i.current = omega (arith, c.requires.fits.1) in rw get_or-set_same)
 
 -- a bare sheet with each column current for itself
 starts : (f n k : ℕ) (current : List ℕ) (joins : List Pair) → current ≡ range_with_len 0 n → joins ≡ [] → k ≡ digits (n - 1) →
@@ -28,8 +28,8 @@ pub loop-turn-init : goal.loop-turn-init
 loop-turn-init c =
     let n = c.args.self.now.columns in
     let own : c.loop-i.current ≡ range_with_len 0 n =
-    fill_by_all (λ (j : ℕ). j) c.loop-i.current n 0 (omega (arith, c.requires.1.1)) (λ j h. c.loop-i.invariant j (omega arith)) ∙ map-id (range_with_len 0 n) in
-    (refl, starts (number_of c.args.family) n c.digit_count-k.result c.loop-i.current (account c.args.self.now).joins own c.requires.0 c.digit_count-k.ensures.counted)
+    fill_by_all (λ (j : ℕ). j) c.loop-i.current n 0 (omega (arith, c.requires.fits.1)) (λ j h. c.loop-i.invariant j (omega arith)) ∙ map-id (range_with_len 0 n) in
+    (refl, starts (number_of c.args.family) n c.digit_count-k.result c.loop-i.current (account c.args.self.now).joins own c.requires.bare c.digit_count-k.ensures.counted)
 
 pub lay_level-requires : goal.lay_level-requires
 lay_level-requires c =
@@ -40,11 +40,11 @@ lay_level-requires c =
     let turns : t < length (levels f k) = omega arith in
     let stands = family_stands_lem f n (number_least c.args.family) (number_most c.args.family) (omega arith) (omega arith) in
     let S : List Pair → Type 0 = λ js. Sound n js in
-    let C : ℕ → Type 0 = λ m. Sound m (lay_level m s (get_or (levels f k) t idle)).joins in (
-      (c.digit_count-k.ensures.few, turns),
-      (c.copy_from_slice.ensures.after, omega (arith, w, c.requires.1.1)),
-      subst C (sym w) (level_sound n (levels f k) s t turns (subst S (sym c.loop-turn.invariant.1) stands.sound)),
-    )
+    let C : ℕ → Type 0 = λ m. Sound m (lay_level m s (get_or (levels f k) t idle)).joins in record {
+      level = (c.digit_count-k.ensures.few, turns);
+      current = (c.copy_from_slice.ensures.after, omega (arith, w, c.requires.fits.1));
+      sound = subst C (sym w) (level_sound n (levels f k) s t turns (subst S (sym c.loop-turn.invariant.1) stands.sound));
+    }
 
 pub loop-turn-preserved : goal.loop-turn-preserved
 loop-turn-preserved c =

@@ -3,8 +3,8 @@ use Rattle.std.proofs.lemmas.Bool.{le-ltb}
 use Rattle.sheet.proofs.Keeping.{pairs_none, fresh}
 use Rattle.sheet.proofs.sheet.Sheet.open.Goals as goal
 
-pub invariant-of-self : goal.invariant-of-self
-invariant-of-self c = fresh c.args.n c.columns.result (omega arith) (omega arith) c.columns.ensures.counted c.columns.ensures.spans
+pub invariant_of-self : goal.invariant_of-self
+invariant_of-self c = fresh c.args.n c.columns.result (omega arith) (omega arith) c.columns.ensures.counted c.columns.ensures.spans
 
 pub returns : goal.returns
 returns c =

@@ -10,26 +10,20 @@ use Rattle.sheet.proofs.sheet.Sheet.undo.Goals as goal
 pub returns-then-self : goal.returns-then-self
 returns-then-self c = let s = c.args.self.now in bare (account s) (omega (arith, count_is s))
 
-pub invariant-of-self : goal.invariant-of-self
-invariant-of-self c =
+pub invariant_of-self : goal.invariant_of-self
+invariant_of-self c =
     let s = c.args.self.now in
     let more : s.columns < s.table.count = omega arith in
     let e : s.table.count ≡ s.table.count - 1 + 1 = omega arith in
     let sp : Spelled s.columns s.table.nodes (s.table.count - 1 + 1) =
     subst (λ (k : ℕ). Spelled s.columns s.table.nodes k) e s.spelled in
-    rw (c.remove.ensures.rows, c.remove.ensures.counted) (
-      s.wide,
-      (
-        (omega arith, omega arith),
-        (
-          (λ v a b. s.founded v a (omega arith)),
-          (
-            (λ v h. s.upward v (omega arith)),
-            (spelled_pop s.columns s.table.nodes (s.table.count - 1) (omega arith) (omega (arith, s.table.sized)) sp, tt),
-          ),
-        ),
-      ),
-    )
+    rw (c.remove.ensures.rows, c.remove.ensures.counted) record {
+      wide = s.wide;
+      room = (omega arith, omega arith);
+      founded = λ v a b. s.founded v a (omega arith);
+      upward = λ v h. s.upward v (omega arith);
+      spelled = spelled_pop s.columns s.table.nodes (s.table.count - 1) (omega arith) (omega (arith, s.table.sized)) sp;
+    }
 
 pub returns : goal.returns
 returns c =

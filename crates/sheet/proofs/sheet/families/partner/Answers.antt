@@ -22,8 +22,8 @@ kogge_stone_level-requires c =
     let k = c.args.k in
     omega (arith, turns k c.args.turn k c.in-KoggeStone.is (length_levels_2 k) c.requires.1.0)
 
-pub overflow-sub-k-else-turn-k : goal.overflow-sub-k-else-turn-k
-overflow-sub-k-else-turn-k c =
+pub overflow_sub-k-else-turn-k : goal.overflow_sub-k-else-turn-k
+overflow_sub-k-else-turn-k c =
     let k = c.args.k in
     omega (arith, turns k c.args.turn (k + (k - 1)) c.in-BrentKung.is (length_levels_3 k) c.requires.1.0)
 
