@@ -1,7 +1,7 @@
 -- Join by join, the nets show the values of the nodes.
 use Rattle.std.proofs.Common.{◌≡◌, ℕ, suc, ◌+◌, ◌*◌, ◌<◌, ◌≤◌, true, ltb, ◌⊎◌, List, [], ◌∷◌, ◌++◌, length, get_or, take, drop, All, sym, refl, ap, ◌∙◌, subst, ⊎_elim, mul-le-mul_right, add-mul, arith}
 use Rattle.std.specs.List.{prefix_len}
-use Rattle.std.proofs.lemmas.List.Elements.{All-append, All-take, All-drop, All-weaker}
+use Rattle.std.proofs.lemmas.List.Elements.{All-nil, All-cons, All-head, All-tail, All-append, All-take, All-drop, All-weaker}
 use Rattle.std.proofs.lemmas.List.{get_or_append_left, get_or_push, length-append, length_push, length-map, length-drop, length-take-le, take_all, take_at, take-take, take-append-le, drop_at, drop-append-le}
 use Rattle.std.proofs.lemmas.Bool.{cases_eq, ltb-true}
 use Rattle.std.proofs.lemmas.List.Sums.{prefix_len-le-length}
@@ -37,8 +37,8 @@ row_in v n w h =
 values_kept : (s more nets : List ℕ) → Under (length s) nets → values (s ++ more) nets ≡ values s nets
 values_kept s more [] b = refl
 values_kept s more (k ∷ ks) b =
-    let here = get_or_append_left s more 0 k b.0 in
-    let rest = values_kept s more ks b.1 in cc
+    let here = get_or_append_left s more 0 k (All-head (λ j. j < length s) k ks b) in
+    let rest = values_kept s more ks (All-tail (λ j. j < length s) k ks b) in cc
 
 pub nets_before : (w v : ℕ) (nets more : List ℕ) → v * w + w ≤ length nets → nets_of w (nets ++ more) v ≡ nets_of w nets v
 nets_before w v nets more h =
@@ -136,10 +136,10 @@ length_valued op u xs (p ∷ ps) =
     omega (arith, length_valued op u (xs ++ z ∷ []) ps, length_push xs z)
 
 pub leading_all : (n : ℕ) (ks : List ℕ) → prefix_len (λ k. ltb k n) ks ≡ length ks → All (λ k. k < n) ks
-leading_all n [] e = tt
+leading_all n [] e = All-nil (λ k. k < n)
 leading_all n (k ∷ ks) e =
     let q = all_cons (ltb k n) (prefix_len (λ k. ltb k n) ks) (length ks) (prefix_len-le-length (λ k. ltb k n) ks) e in
-    (ltb-true k n q.0, leading_all n ks q.1)
+    All-cons (λ j. j < n) k ks (ltb-true k n q.0) (leading_all n ks q.1)
 
 -- the gates appended compute the products over the words
 pub computes : {E : Type 0} (op : E → E → E) (u : E) (bits : E → List ℕ) (t : List TemplateGate) (rs : List Pin) (l : Monoid op u) (k : Templated op bits t rs)

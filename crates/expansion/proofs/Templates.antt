@@ -1,6 +1,6 @@
 -- A template placed over nets has the values that it has over the bits that the nets show.
 use Rattle.std.proofs.Common.{◌≡◌, ℕ, ◌+◌, ◌<◌, true, false, cond, eqb, List, [], ◌∷◌, ◌++◌, map, length, get_or, fold, All, sym, refl, ap, ◌∙◌, arith}
-use Rattle.std.proofs.lemmas.List.Elements.{All-get_or}
+use Rattle.std.proofs.lemmas.List.Elements.{All-nil, All-cons, All-get_or}
 use Rattle.std.proofs.lemmas.List.{append-nil, append_assoc, get_or_append_left, get_or-append-add, get_or-map, length_push}
 use Rattle.std.proofs.lemmas.Bool.{ltb-true, and_parts}
 use Rattle.std.proofs.lemmas.Bool.Decides.{nat_tests}
@@ -81,7 +81,8 @@ net_under low high base w k (Inner j) e f b d h = omega (arith, ltb-true j k h)
 -- the result's nets are signals of the placed template or before it
 pub results_under : (low high : List ℕ) (base w k : ℕ) (rs : List Pin) → length low ≡ w → length high ≡ w → Under base low → Under base high → reach w k rs ≡ true
     → Under (base + k) (map (net low high base) rs)
-results_under low high base w k [] e f b d o = tt
+results_under low high base w k [] e f b d o = All-nil (λ j. j < base + k)
 results_under low high base w k (p ∷ rs) e f b d o =
     let q = and_parts (within w k p) (reach w k rs) o in
-    (net_under low high base w k p e f b d q.0, results_under low high base w k rs e f b d q.1)
+    All-cons (λ j. j < base + k) (net low high base p) (map (net low high base) rs)
+    (net_under low high base w k p e f b d q.0) (results_under low high base w k rs e f b d q.1)

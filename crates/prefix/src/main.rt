@@ -1,5 +1,6 @@
 // The program: words in, calls of the library, answers out.
 #![tactic(auto)]
+
 mod call;
 mod failure;
 mod gap;

@@ -1,5 +1,6 @@
 // The worked cases of sheets and families, and the sheet's limits, run as tests.
 #![tactic(auto)]
+
 #[cfg(test)]
 mod calls;
 #[cfg(test)]

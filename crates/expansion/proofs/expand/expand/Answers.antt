@@ -21,7 +21,7 @@ returns g c =
     let met = g.met.K.Kind in
     let laws : Monoid g.K.Kind.times g.K.Kind.neutral = record { assoc = met.associative; left = met.left; right = met.right } in
     let fits : Templated g.K.Kind.times g.K.Kind.bits t rs =
-    record { wide = met.wide; template = met.template; formed = met.formed; reaching = met.reaching } in
+    record { wide = met.wide; template = met.template; formed = met.well_formed; reaching = met.reaching } in
     let ordered = ordered_is c.args.closed.now.sheet.now in
     let ok : number c.in_ok-grown.grown ≡ admitted t rs a m gates used nets = sym (ap count c.in_ok-grown.was) ∙ c.admit.ensures in
     let answer : (number c.in_ok-grown.grown, gs, ns) ≡ expanded t rs a m gates used nets =

@@ -8,4 +8,4 @@ use Rattle.script.proofs.drawing.Drawing.close.Goals as goal
 pub invariant_of-self : goal.invariant_of-self
 invariant_of-self c =
     let a = account c.args.self.now.sheet in let k = c.in-Ok.closed in
-    ((λ t. subst Covered (closed_is a (account_of k) c.in-Ok.ensures) k.covered), tt)
+    record { covered = λ t. subst Covered (closed_is a (account_of k) c.in-Ok.ensures) k.covered }
