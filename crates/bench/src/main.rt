@@ -2,6 +2,7 @@
 // with a number, simulate is called that many times and run a hundred times as often, and the
 // nanoseconds of all calls are printed too.
 #![tactic(auto)]
+
 use anyhow::anyhow;
 use kinds::carry::Carries;
 use kinds::elements::Carry;

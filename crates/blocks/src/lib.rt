@@ -1,5 +1,6 @@
 // Blocks built on closed sheets: adders, comparators, Gray decoders and state machines.
 #![tactic(auto)]
+
 pub mod build;
 mod layout;
 mod nets;

@@ -2,7 +2,7 @@
 use Rattle.std.proofs.Common.{◌≡◌, ℕ, zero, suc, ◌+◌, ◌-◌, ◌*◌, ◌/◌, ◌%◌, ◌<◌, ◌≤◌, Bool, true, false, cond, eqb, List, [], ◌∷◌, map, length, get_or, take, fold, sym, refl, ap, ◌∙◌, subst, arith}
 use Rattle.std.specs.List.{range_with_len}
 use Rattle.std.proofs.lemmas.List.FromFn.{fill_by_all}
-use Rattle.std.proofs.lemmas.List.Elements.{All-drop, All-get_or}
+use Rattle.std.proofs.lemmas.List.Elements.{All-nil, All-cons, All-drop, All-get_or}
 use Rattle.std.proofs.lemmas.List.{length-map, get_or-map, take-map}
 use Rattle.account.specs.Account.{Account}
 use Rattle.netlist.specs.Signals.{value_over, signals}
@@ -33,10 +33,17 @@ product m inputs i = fold map_product map_unit (take (i + 1) (columns m inputs))
 abbrev pub followed : Machine → List ℕ → ℕ → ℕ
 followed m inputs k = get_or (map_bits (product m inputs (k / 2))) (2 * m.start + k % 2) 0
 
+entry_small : (x : State) (xs : List ℕ) → Bits xs → Bits (low_bit x ∷ high_bit x ∷ xs)
+entry_small x xs b =
+    All-cons (λ y. y < 2) (low_bit x) (high_bit x ∷ xs) (low_small x) (All-cons (λ y. y < 2) (high_bit x) xs (high_small x) b)
+
 map_small : (x : Map) (j : ℕ) → get_or (map_bits x) j 0 < 2
 map_small x j =
+    let e3 : List ℕ = low_bit x.e3 ∷ high_bit x.e3 ∷ [] in
+    let e2 : List ℕ = low_bit x.e2 ∷ high_bit x.e2 ∷ e3 in
+    let e1 : List ℕ = low_bit x.e1 ∷ high_bit x.e1 ∷ e2 in
     small (map_bits x) j
-    (low_small x.e0, (high_small x.e0, (low_small x.e1, (high_small x.e1, (low_small x.e2, (high_small x.e2, (low_small x.e3, (high_small x.e3, tt))))))))
+    (entry_small x.e0 e1 (entry_small x.e1 e2 (entry_small x.e2 e3 (entry_small x.e3 [] (All-nil (λ y. y < 2))))))
 
 -- the gate of a bit that is x at symbol 0 and y at symbol 1
 symbol_value : (s : List ℕ) (i x y v : ℕ) → x < 2 → y < 2 → v < 2 → get_or s i 0 ≡ v → value_over s (symbol_gate x y i) ≡ cond (eqb v 0) x y

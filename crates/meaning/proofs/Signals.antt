@@ -2,7 +2,7 @@
 use Rattle.std.proofs.Common.{◌≡◌, ℕ, zero, suc, ◌+◌, ◌/◌, ◌%◌, ◌^◌, ◌<◌, ◌≤◌, Bool, true, false, not, ◌&&◌, eqb, List, [], ◌∷◌, ◌++◌, map, length, get_or, take, All, sym, refl, ap, ◌∙◌, subst, arith}
 use Rattle.std.specs.List.{range_with_len}
 use Rattle.std.proofs.lemmas.List.FromFn.{length-map-range_with_len, get_or-map-range_with_len}
-use Rattle.std.proofs.lemmas.List.Elements.{All-push, All-get_or}
+use Rattle.std.proofs.lemmas.List.Elements.{All-head, All-tail, All-push, All-get_or}
 use Rattle.std.proofs.lemmas.List.{append_assoc, length-append, get_or_append_left, get_or-append-add, get_or-take}
 use Rattle.netlist.specs.declared.gate.Gate.{Gate}
 use Rattle.netlist.specs.Gates.{good, good_from, zero_gate, row_value, not_table, buffer_table, and_table, xor_table}
@@ -61,8 +61,8 @@ signals_bits inputs (g ∷ gs) b = signals_bits (inputs ++ value_over inputs g �
 
 pub small : (xs : List ℕ) (i : ℕ) → Bits xs → get_or xs i 0 < 2
 small [] i b = omega arith
-small (x ∷ xs) zero b = b.0
-small (x ∷ xs) (suc i) b = small xs i b.1
+small (x ∷ xs) zero b = All-head (λ y. y < 2) x xs b
+small (x ∷ xs) (suc i) b = small xs i (All-tail (λ y. y < 2) x xs b)
 
 pub signal_small : (inputs : List ℕ) (gs : List Gate) (i : ℕ) → Bits inputs → get_or (signals inputs gs) i 0 < 2
 signal_small inputs gs i b = small (signals inputs gs) i (signals_bits inputs gs b)

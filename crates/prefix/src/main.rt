@@ -16,6 +16,7 @@ mod words;
 
 use failure::{Failure, usage};
 use std::env;
+use std::process::ExitCode;
 
 // The command that the words name.
 fn command(rt: &HostRuntime, words: &[&str]) -> Result<(), Failure> {
@@ -49,12 +50,12 @@ fn run(rt: &HostRuntime) -> Result<(), Failure> {
     command(rt, words.as_slice())
 }
 
-fn main(rt: HostRuntime) -> Result<(), Failure> {
+fn main(rt: HostRuntime) -> ExitCode {
     match run(&rt) {
-        Ok(()) => Ok(()),
+        Ok(()) => ExitCode::SUCCESS,
         Err(failure) => {
             failure::tell(&rt, &failure);
-            Err(failure)
+            ExitCode::FAILURE
         }
     }
 }

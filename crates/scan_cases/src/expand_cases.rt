@@ -11,11 +11,12 @@ use netlist::simulation::simulate;
 use scan::run::run;
 use sheet::sheet::Sheet;
 use sheet::sheet::closed::ClosedSheet;
-use std::test::*;
+use std::process::Abort;
+use std::test::Fail;
 
 // The signals of the expanded sheet, and the nets of its nodes, on the bits of the elements.
 fn signals<K: Kind>(
-    rt: &HostRuntime,
+    rt: &(impl AllocGlobal + Abort),
     closed: &ClosedSheet,
     elements: &[K::Element],
 ) -> Result<(Vec<u8>, Vec<usize>), Fail> {
@@ -33,7 +34,7 @@ fn signals<K: Kind>(
     }
     let mut gates = vec![in rt.alloc(); Gate::constant(false); closed.joins() * K::size()]?;
     match expand::<K>(closed, m, &mut gates, 0, &mut nets) {
-        Ok(used) => assert!(used == gates.len()),
+        Ok(used) => assert!(rt; used == gates.len()),
         Err(_) => return Err(Fail::new("expand")),
     }
     let mut values = Vec::new(rt.alloc());
@@ -43,13 +44,13 @@ fn signals<K: Kind>(
     for _ in &gates {
         values.push(0)?;
     }
-    assert!(simulate(&inputs, &gates, &mut values).is_ok());
+    assert!(rt; simulate(&inputs, &gates, &mut values).is_ok());
     Ok((values, nets))
 }
 
 // The values of all nodes of the drawn sheet.
 fn values<K: Kind>(
-    rt: &HostRuntime,
+    rt: &(impl AllocGlobal + Abort),
     closed: &ClosedSheet,
     elements: &[K::Element],
 ) -> Result<Vec<K::Element>, Fail> {
@@ -57,14 +58,14 @@ fn values<K: Kind>(
     for _ in 0..9 {
         values.push(K::unit())?;
     }
-    assert!(run::<K>(closed, elements, &mut values).is_ok());
+    assert!(rt; run::<K>(closed, elements, &mut values).is_ok());
     Ok(values)
 }
 
 // Runs and expands the drawn sheet over the same elements: the nets of each node show its value.
-fn agree<K: Kind>(rt: &HostRuntime, elements: &[K::Element]) -> Result<(), Fail> {
+fn agree<K: Kind>(rt: &(impl AllocGlobal + Abort), elements: &[K::Element]) -> Result<(), Fail> {
     let mut sheet = Sheet::bare();
-    draw(&mut sheet)?;
+    draw(rt, &mut sheet);
     let Ok(closed) = sheet.close() else {
         return Err(Fail::new("close"));
     };
@@ -73,11 +74,11 @@ fn agree<K: Kind>(rt: &HostRuntime, elements: &[K::Element]) -> Result<(), Fail>
     for x in &values::<K>(rt, &closed, elements)? {
         for b in 0..K::width() {
             let net = nets.get(at).copied().unwrap_or(0);
-            assert_eq!(signals.get(net).copied(), Some(K::bit(*x, b)));
+            assert_eq!(rt; signals.get(net).copied(), Some(K::bit(*x, b)));
             at = at.saturating_add(1);
         }
     }
-    assert_eq!(at, nets.len());
+    assert_eq!(rt; at, nets.len());
     Ok(())
 }
 
@@ -151,7 +152,7 @@ fn expanded(
 #[test]
 fn refusals(rt: HostRuntime) -> Result<(), Fail> {
     let mut sheet = Sheet::bare();
-    draw(&mut sheet)?;
+    draw(&rt, &mut sheet);
     let Ok(closed) = sheet.close() else {
         return Err(Fail::new("close"));
     };

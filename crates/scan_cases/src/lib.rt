@@ -1,5 +1,6 @@
 // Worked cases of gates, element kinds, runs and expansions.
 #![tactic(auto)]
+
 #[cfg(test)]
 mod expand_cases;
 #[cfg(test)]

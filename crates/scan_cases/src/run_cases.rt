@@ -6,12 +6,13 @@ use kinds::parity::Parities;
 use kinds::verdict::Verdicts;
 use scan::run::run;
 use sheet::sheet::Sheet;
-use std::test::*;
+use std::process::Abort;
+use std::test::Fail;
 
 #[test]
 fn parity_run(rt: HostRuntime) -> Result<(), Fail> {
     let mut sheet = Sheet::bare();
-    draw(&mut sheet)?;
+    draw(&rt, &mut sheet);
     let Ok(closed) = sheet.close() else {
         return Err(Fail::new("close"));
     };
@@ -26,9 +27,9 @@ fn parity_run(rt: HostRuntime) -> Result<(), Fail> {
 }
 
 // Runs the drawn sheet over lists of these lengths.
-fn lengths(elements: usize, slots: usize) -> Result<(u8, usize), Fail> {
+fn lengths(rt: &impl Abort, elements: usize, slots: usize) -> Result<(u8, usize), Fail> {
     let mut sheet = Sheet::bare();
-    draw(&mut sheet)?;
+    draw(rt, &mut sheet);
     let Ok(closed) = sheet.close() else {
         return Err(Fail::new("close"));
     };
@@ -41,10 +42,10 @@ fn lengths(elements: usize, slots: usize) -> Result<(u8, usize), Fail> {
 
 #[test]
 fn refusals(rt: HostRuntime) -> Result<(), Fail> {
-    assert_eq!(rt; lengths(4, 9)?, (0, 0));
-    assert_eq!(rt; lengths(3, 8)?, (9, 3));
-    assert_eq!(rt; lengths(4, 8)?, (9, 8));
-    assert_eq!(rt; lengths(4, 10)?, (9, 10));
+    assert_eq!(rt; lengths(&rt, 4, 9)?, (0, 0));
+    assert_eq!(rt; lengths(&rt, 3, 8)?, (9, 3));
+    assert_eq!(rt; lengths(&rt, 4, 8)?, (9, 8));
+    assert_eq!(rt; lengths(&rt, 4, 10)?, (9, 10));
     Ok(())
 }
 
@@ -52,7 +53,7 @@ fn refusals(rt: HostRuntime) -> Result<(), Fail> {
 #[test]
 fn carry_run(rt: HostRuntime) -> Result<(), Fail> {
     let mut sheet = Sheet::bare();
-    draw(&mut sheet)?;
+    draw(&rt, &mut sheet);
     let Ok(closed) = sheet.close() else {
         return Err(Fail::new("close"));
     };
@@ -74,7 +75,7 @@ fn carry_run(rt: HostRuntime) -> Result<(), Fail> {
 #[test]
 fn verdict_run(rt: HostRuntime) -> Result<(), Fail> {
     let mut sheet = Sheet::bare();
-    draw(&mut sheet)?;
+    draw(&rt, &mut sheet);
     let Ok(closed) = sheet.close() else {
         return Err(Fail::new("close"));
     };
@@ -95,7 +96,7 @@ fn verdict_run(rt: HostRuntime) -> Result<(), Fail> {
 #[test]
 fn map_run(rt: HostRuntime) -> Result<(), Fail> {
     let mut sheet = Sheet::bare();
-    draw(&mut sheet)?;
+    draw(&rt, &mut sheet);
     let Ok(closed) = sheet.close() else {
         return Err(Fail::new("close"));
     };
