@@ -3,6 +3,7 @@ use Rattle.std.proofs.Common.{◌≡◌, ℕ, zero, suc, ◌+◌, ◌-◌, ◌*�
 use Rattle.std.specs.List.{range_with_len, prefix_len}
 use Rattle.std.proofs.lemmas.List.FromFn.{length-map-range_with_len, map-range_with_len_more}
 use Rattle.std.proofs.lemmas.List.{append_assoc, length-append, length-take-le, length-drop, take-append-drop, drop_more, set_at}
+use Rattle.std.proofs.lemmas.List.Elements.{All-head, All-tail}
 use Rattle.std.proofs.lemmas.Bool.{lt-ltb, le-ltb, eq-eqb}
 use Rattle.account.specs.Account.{Account, nodes, output_of}
 use Rattle.account.proofs.Measuring.{output_node}
@@ -58,7 +59,7 @@ length_written xs ys at h =
 
 all_leading : (n : ℕ) (ks : List ℕ) → All (λ k. k < n) ks → prefix_len (λ k. ltb k n) ks ≡ length ks
 all_leading n [] b = refl
-all_leading n (k ∷ ks) b = ap (λ t. cond t (1 + prefix_len (λ k. ltb k n) ks) 0) (lt-ltb k n b.0) ∙ omega (arith, all_leading n ks b.1)
+all_leading n (k ∷ ks) b = ap (λ t. cond t (1 + prefix_len (λ k. ltb k n) ks) 0) (lt-ltb k n (All-head (λ j. j < n) k ks b)) ∙ omega (arith, all_leading n ks (All-tail (λ j. j < n) k ks b))
 
 -- what an expansion needs to be accepted
 pub record Fits (t : List TemplateGate) (rs : List Pin) (a : Account) (m : ℕ) (gates : List Gate) (used : ℕ) (nets : List ℕ) : Type 0 where

@@ -5,7 +5,7 @@ use Rattle.std.proofs.lemmas.List.{length-append, length-map, length-take-le}
 use Rattle.std.proofs.lemmas.Bool.{and_parts, cases_eq}
 use Rattle.std.proofs.lemmas.Bool.Decides.{nat_tests}
 use Rattle.account.specs.Words.{Pair, Ordered}
-use Rattle.account.specs.Account.{Account, nodes}
+use Rattle.account.specs.Account.{Account}
 use Rattle.netlist.specs.declared.gate.Gate.{Gate}
 use Rattle.netlist.specs.Gates.{good, good_from}
 use Rattle.netlist.specs.Refusals.{Answer, number}

@@ -1,21 +1,20 @@
 -- Join by join, the nets show the values of the nodes.
-use Rattle.std.proofs.Common.{◌≡◌, ℕ, suc, ◌+◌, ◌*◌, ◌<◌, ◌≤◌, true, ltb, ◌⊎◌, List, [], ◌∷◌, ◌++◌, length, get_or, take, drop, All, sym, refl, ap, ◌∙◌, subst, ⊎_elim, mul-le-mul_right, add-mul, arith}
+use Rattle.std.proofs.Common.{◌≡◌, ℕ, suc, ◌+◌, ◌*◌, ◌<◌, ◌≤◌, true, ltb, List, [], ◌∷◌, ◌++◌, length, get_or, take, drop, All, sym, refl, ap, ◌∙◌, subst, ⊎_elim, mul-le-mul_right, add-mul, arith}
 use Rattle.std.specs.List.{prefix_len}
 use Rattle.std.proofs.lemmas.List.Elements.{All-nil, All-cons, All-head, All-tail, All-append, All-take, All-drop, All-weaker}
 use Rattle.std.proofs.lemmas.List.{get_or_append_left, get_or_push, length-append, length_push, length-map, length-drop, length-take-le, take_all, take_at, take-take, take-append-le, drop_at, drop-append-le}
 use Rattle.std.proofs.lemmas.Bool.{cases_eq, ltb-true}
 use Rattle.std.proofs.lemmas.List.Sums.{prefix_len-le-length}
 use Rattle.account.specs.Words.{Pair, Ordered}
-use Rattle.account.specs.Account.{Account, nodes}
+use Rattle.account.specs.Account.{Account}
 use Rattle.netlist.specs.declared.gate.Gate.{Gate}
 use Rattle.netlist.specs.Signals.{signals}
-use Rattle.netlist.specs.Signals as signal
 use Rattle.netlist.proofs.Rules.{all_cons}
 use Rattle.netlist.proofs.Steps.{signals_append, signals_kept, length_signals}
 use Rattle.kinds.specs.declared.template.TemplateGate.{TemplateGate}
 use Rattle.kinds.specs.declared.template.Pin.{Pin}
 use Rattle.kinds.specs.Template.{evaluated, shown, formed, reach}
-use Rattle.scan.specs.Values.{valued, over}
+use Rattle.scan.specs.Values.{valued}
 use Rattle.expansion.specs.Expansion.{nets_of, net, gates_for, nets_for, appended, wired, column_nets, values, Shows, Computes}
 use Rattle.scan.proofs.Products.{Monoid, value_word}
 use Rattle.expansion.proofs.Placing.{slots_kept}

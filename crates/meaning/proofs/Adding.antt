@@ -1,5 +1,5 @@
 -- The adder: its buffers carry the sum's bits and the last carry.
-use Rattle.std.proofs.Common.{◌≡◌, ℕ, zero, suc, ◌+◌, ◌-◌, ◌*◌, ◌/◌, ◌%◌, ◌^◌, ◌<◌, ◌≤◌, Bool, true, false, cond, ◌&&◌, eqb, ltb, ◌⊎◌, List, [], ◌∷◌, ◌++◌, map, length, get_or, take, drop, fold, sym, refl, ap, ◌∙◌, subst, ⊎_elim, mul_assoc, mul_comm, mul-add, arith}
+use Rattle.std.proofs.Common.{◌≡◌, ℕ, zero, suc, ◌+◌, ◌-◌, ◌*◌, ◌/◌, ◌%◌, ◌^◌, ◌<◌, ◌≤◌, Bool, true, false, cond, ◌&&◌, eqb, ltb, List, [], ◌∷◌, map, length, get_or, take, fold, sym, refl, ap, ◌∙◌, subst, ⊎_elim, mul_assoc, mul_comm, mul-add, arith}
 use native.Mathlib.Nat.{pow-succ'}
 use Rattle.std.specs.List.{range_with_len}
 use Rattle.std.proofs.lemmas.List.FromFn.{length-map-range_with_len, get_or-map-range_with_len, fill_by_all}
@@ -17,7 +17,7 @@ use Rattle.kinds.specs.Laws.{parity_right}
 use Rattle.expansion.specs.Expansion.{Shows, values}
 use Rattle.meaning.specs.declared.block.Block.TheVariants.{Adder}
 use Rattle.meaning.specs.Numbers.{value, Bits}
-use Rattle.meaning.specs.Meaning.{first, second, Adds}
+use Rattle.meaning.specs.Meaning.{second, Adds}
 use Rattle.meaning.specs.Layout.{adder_leaf, column_net, column_nets, leaves, node_nets, net_at, first_end, block_gates, outputs_of}
 use Rattle.meaning.proofs.KindLaws.{carries, carries_templated}
 use Rattle.meaning.proofs.Signals.{is_set, set_bit, input_kept, and_value, xor_value, signals_bits}

@@ -1,15 +1,15 @@
 -- The machine: its buffers carry the state after each symbol.
-use Rattle.std.proofs.Common.{◌≡◌, ℕ, zero, suc, ◌+◌, ◌-◌, ◌*◌, ◌/◌, ◌%◌, ◌<◌, ◌≤◌, Bool, true, false, cond, eqb, List, [], ◌∷◌, map, length, get_or, take, fold, sym, refl, ap, ◌∙◌, subst, arith}
+use Rattle.std.proofs.Common.{◌≡◌, ℕ, zero, suc, ◌+◌, ◌*◌, ◌/◌, ◌%◌, ◌<◌, ◌≤◌, true, false, cond, eqb, List, [], ◌∷◌, map, length, get_or, take, fold, sym, refl, ap, ◌∙◌, arith}
 use Rattle.std.specs.List.{range_with_len}
 use Rattle.std.proofs.lemmas.List.FromFn.{fill_by_all}
-use Rattle.std.proofs.lemmas.List.Elements.{All-nil, All-cons, All-drop, All-get_or}
+use Rattle.std.proofs.lemmas.List.Elements.{All-nil, All-cons, All-drop}
 use Rattle.std.proofs.lemmas.List.{length-map, get_or-map, take-map}
 use Rattle.account.specs.Account.{Account}
 use Rattle.netlist.specs.Signals.{value_over, signals}
 use Rattle.kinds.specs.declared.elements.State.{State}
 use Rattle.kinds.specs.declared.elements.State.TheVariants.{S0, S1, S2, S3}
 use Rattle.kinds.specs.declared.elements.Map.{Map}
-use Rattle.kinds.specs.Map.{entry_at, map_unit, map_product, map_bits, low_bit, high_bit, state_number}
+use Rattle.kinds.specs.Map.{entry_at, map_unit, map_product, map_bits, low_bit, high_bit}
 use Rattle.kinds.specs.Select.{low_small, high_small}
 use Rattle.expansion.specs.Expansion.{Shows}
 use Rattle.meaning.specs.declared.block.Machine.{Machine}

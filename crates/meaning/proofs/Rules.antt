@@ -1,9 +1,7 @@
 -- The rules that each block's own gates keep: they are good, and what they read stands before them.
-use Rattle.std.proofs.Common.{◌≡◌, ℕ, ◌+◌, ◌-◌, ◌*◌, ◌/◌, ◌%◌, ◌<◌, ◌≤◌, Bool, true, false, cond, eqb, ltb, ◌⊎◌, List, ◌∷◌, length, get_or, refl, ⊎_elim, arith}
+use Rattle.std.proofs.Common.{◌≡◌, ℕ, ◌+◌, ◌-◌, ◌*◌, ◌/◌, ◌%◌, ◌<◌, ◌≤◌, Bool, true, false, cond, eqb, refl, arith}
 use Rattle.std.proofs.lemmas.Bool.Decides.{nat_tests}
-use Rattle.netlist.specs.declared.gate.Gate.{Gate}
 use Rattle.netlist.specs.Gates.{good, constant_gate, one_gate, two_gate}
-use Rattle.meaning.specs.declared.block.Machine.{Machine}
 use Rattle.meaning.specs.declared.block.Block.{Block}
 use Rattle.meaning.specs.declared.block.Block.TheVariants.{Adder, Comparator, GrayDecoder, Machine as MachineBlock}
 use Rattle.meaning.specs.Layout.{width, input_count, leaf_count, end_count, output_count, adder_leaf, comparator_leaf, symbol_gate, leaf_gate, column_net, end_gate, output_net, base}

@@ -1,9 +1,8 @@
 -- The gates of any block on any covered sheet: they are good, its buffers pass their signals on, and its output nets show the products.
-use Rattle.std.proofs.Common.{◌≡◌, ℕ, ◌+◌, ◌-◌, ◌*◌, ◌<◌, ◌≤◌, List, [], ◌∷◌, ◌++◌, map, length, get_or, take, drop, Some, fold, All, unwrap_or, sym, refl, ap, ◌∙◌, subst, add-mul, arith}
-use Rattle.std.specs.List.{range_with_len}
+use Rattle.std.proofs.Common.{◌≡◌, ℕ, ◌+◌, ◌-◌, ◌*◌, ◌<◌, ◌≤◌, List, [], ◌∷◌, ◌++◌, length, get_or, take, drop, Some, fold, All, unwrap_or, sym, refl, ap, ◌∙◌, subst, add-mul, arith}
 use Rattle.std.proofs.lemmas.List.FromFn.{length-map-range_with_len, get_or-map-range_with_len}
 use Rattle.std.proofs.lemmas.List.Elements.{All-from_get_or, All-get_or}
-use Rattle.std.proofs.lemmas.List.{append-nil, append_assoc, length-append, length-map, length-drop, length-take-le, take_all, get_or-take, get_or-drop, get_or-map, get_or_append_left}
+use Rattle.std.proofs.lemmas.List.{append-nil, append_assoc, length-append, length-map, length-drop, take_all, get_or-take, get_or-drop, get_or-map}
 use Rattle.account.specs.Words.{Pair, Ordered}
 use Rattle.account.specs.Account.{Account, nodes, word_of, output_of, Covered}
 use Rattle.account.proofs.Measuring.{output_node}

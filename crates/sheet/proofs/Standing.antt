@@ -1,4 +1,4 @@
-use Rattle.std.proofs.Common.{◌≡◌, ℕ, suc, ◌+◌, ◌-◌, ◌<◌, ◌≤◌, max, true, false, eqb, ◌⊎◌, List, [], ◌∷◌, ◌++◌, length, get_or, take, drop, is_some, Some, None, sym, ap, ◌∙◌, subst, ⊎_elim, arith}
+use Rattle.std.proofs.Common.{◌≡◌, ℕ, suc, ◌+◌, ◌-◌, ◌<◌, ◌≤◌, max, true, false, eqb, List, [], ◌∷◌, ◌++◌, length, get_or, take, drop, is_some, Some, None, sym, ap, ◌∙◌, subst, ⊎_elim, arith}
 use Rattle.std.specs.List.{range_with_len}
 use Rattle.std.proofs.lemmas.List.{take_at, at_drop_more, at_drop_all}
 use Rattle.std.proofs.lemmas.Bool.{cases_eq, eq-eqb, ne_eqb}
@@ -13,7 +13,7 @@ use Rattle.sheet.specs.declared.node.Node.{Node}
 use Rattle.sheet.specs.declared.sheet.Sheet.{Sheet}
 use Rattle.account.proofs.Answering.{gap_exactly}
 use Rattle.account.proofs.Spelling.{run_counting, length_words}
-use Rattle.account.specs.Measure.{depths, deeper, takes}
+use Rattle.account.specs.Measure.{depths, deeper}
 use Rattle.account.proofs.Tying.{span_out, span_other}
 use Rattle.account.proofs.Measuring.{depth_join}
 use Rattle.sheet.proofs.Keeping.{size, nodes_count, run_spans, front_span, back_span, length_pairs, pairs_pop, pairs_at}

@@ -1,4 +1,4 @@
-use Rattle.std.proofs.Common.{◌≡◌, ℕ, ◌+◌, ◌-◌, ◌*◌, ◌<◌, ◌≤◌, List, map, length, sym, ap, ◌∙◌, subst, arith, rules}
+use Rattle.std.proofs.Common.{◌≡◌, ℕ, ◌+◌, ◌*◌, ◌<◌, ◌≤◌, List, map, length, sym, ap, ◌∙◌, subst, arith, rules}
 use Rattle.sheet.specs.Closing.{account_of}
 use Rattle.account.specs.Words.{Pair}
 use Rattle.scan.proofs.Running.{pair_is}

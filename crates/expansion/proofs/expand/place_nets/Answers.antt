@@ -1,6 +1,5 @@
 use Rattle.std.proofs.Common.{◌≡◌, ℕ, ◌+◌, ◌-◌, ◌<◌, ◌≤◌, List, length, take, drop, sym, ap, ◌∙◌, arith}
 use Rattle.std.proofs.lemmas.List.{drop-set-lt, length-set, length-take-le, length-drop}
-use Rattle.kinds.specs.declared.template.Pin.{Pin}
 use Rattle.kinds.specs.declared.template.Pin.TheVariants.{Low}
 use Rattle.kinds.specs.Template.{within}
 use Rattle.expansion.specs.Expansion.{net, slots}

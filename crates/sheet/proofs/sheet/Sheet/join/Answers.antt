@@ -1,7 +1,7 @@
 use Rattle.std.proofs.Common.{◌≡◌, ℕ, ◌+◌, ◌<◌, ◌≤◌, true, false, List, [], ◌∷◌, ◌++◌, length, set, sym, refl, ap, ◌∙◌, arith, rules}
 use Rattle.std.proofs.lemmas.Bool.{eq-eqb, ne_eqb}
 use Rattle.account.specs.Words.{Pair}
-use Rattle.account.specs.Account.{Account, Answer, refused, nodes, meets, joined}
+use Rattle.account.specs.Account.{Account, Answer, refused, meets, joined}
 use Rattle.account.proofs.Answering.{no_low, no_high, gap, full, accepted}
 use Rattle.answers.specs.Refusals.{answer}
 use Rattle.sheet.specs.Spans.{at, interval, pairs_of}
