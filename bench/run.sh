@@ -8,10 +8,10 @@ calls=${1:-2000}
 turns=${2:-5}
 work=$(mktemp -d)
 trap 'rm -rf "$work"' EXIT
-rt check bench >"$work/check" 2>&1 || { tail -5 "$work/check"; exit 1; }
+(cd crates/bench && rt run) >"$work/check" 2>&1 || { tail -5 "$work/check"; exit 1; }
 clang -O3 -o "$work/plain" bench/plain.c
 for turn in $(seq "$turns"); do
-    target/bin/bench "$calls" >"$work/library.$turn"
+    crates/bench/out/bench "$calls" >"$work/library.$turn"
     "$work/plain" "$calls" >"$work/checked.$turn"
     "$work/plain" "$calls" bare >"$work/bare.$turn"
     for other in checked bare; do

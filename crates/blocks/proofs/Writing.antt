@@ -1,5 +1,5 @@
 -- Slots written one after another, and expansions that pass every check.
-use Rattle.std.proofs.Common.{◌≡◌, ℕ, zero, suc, ◌+◌, ◌-◌, ◌*◌, ◌<◌, ◌≤◌, Bool, true, false, cond, not, ◌||◌, eqb, ltb, List, [], ◌∷◌, ◌++◌, map, length, get_or, take, drop, set, Some, All, sym, refl, ap, ◌∙◌, subst, arith}
+use Rattle.std.proofs.Common.{◌≡◌, ℕ, ◌+◌, ◌*◌, ◌<◌, ◌≤◌, cond, ltb, List, [], ◌∷◌, ◌++◌, map, length, get_or, take, drop, set, Some, All, sym, refl, ap, ◌∙◌, arith}
 use Rattle.std.specs.List.{range_with_len, prefix_len}
 use Rattle.std.proofs.lemmas.List.FromFn.{length-map-range_with_len, map-range_with_len_more}
 use Rattle.std.proofs.lemmas.List.{append_assoc, length-append, length-take-le, length-drop, take-append-drop, drop_more, set_at}
@@ -9,7 +9,7 @@ use Rattle.account.specs.Account.{Account, nodes, output_of}
 use Rattle.account.proofs.Measuring.{output_node}
 use Rattle.netlist.specs.declared.gate.Gate.{Gate}
 use Rattle.netlist.specs.Gates.{good_from}
-use Rattle.netlist.specs.Refusals.{Answer, number}
+use Rattle.netlist.specs.Refusals.{number}
 use Rattle.kinds.specs.declared.template.TemplateGate.{TemplateGate}
 use Rattle.kinds.specs.declared.template.Pin.{Pin}
 use Rattle.expansion.specs.Expansion.{written, column_nets, grown_to, admitted, expanded, tables, appended, wired}
