@@ -1,5 +1,5 @@
 ghost use Rattle.std.specs.Prelude.{◌≡◌, ◌*◌, ◌<◌, ◌≤◌, length};
-ghost use Rattle.meaning.specs.Layout.{template, width as elementWidth, input_count, leaf_count, end_count, output_count, adder_leaf, comparator_leaf, symbol_gate, machine_leaf, leaf_gate, column_net};
+ghost use Rattle.meaning.specs.Layout.{template, width as element_width, input_count, leaf_count, end_count, output_count, adder_leaf, comparator_leaf, symbol_gate, machine_leaf, leaf_gate, column_net};
 ghost use Rattle.blocks.specs.Building.{start_of};
 
 use kinds::kind::Kind;
@@ -66,7 +66,7 @@ pub(crate) fn output_count(block: Block, n: usize) -> usize
 
 // The number of nets that carry an element of its kind, and the number of gates of a join.
 pub(crate) fn width(block: Block) -> usize
-    ensures { result ≡ elementWidth block }
+    ensures { result ≡ element_width block }
 {
     match block {
         Block::Adder | Block::Comparator => 2,
@@ -148,7 +148,7 @@ pub(crate) fn leaf_gate(block: Block, n: usize, k: usize) -> Gate
 
 // Net k of all columns.
 pub(crate) fn column_net(block: Block, n: usize, k: usize) -> usize
-    requires { (n ≤ 64) × (k < n * elementWidth block) }
+    requires { (n ≤ 64) × (k < n * element_width block) }
     ensures { result ≡ column_net block n k }
 {
     match block {

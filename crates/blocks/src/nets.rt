@@ -1,7 +1,7 @@
 ghost use Rattle.std.specs.Prelude.{◌≡◌, ◌+◌, ◌*◌, ◌<◌, ◌≤◌, length};
 ghost use Rattle.account.specs.Account.{nodes};
 ghost use Rattle.sheet.specs.Closing.{account_of};
-ghost use Rattle.meaning.specs.Layout.{width as elementWidth, end_count, output_count, net_at, end_gate, output_net};
+ghost use Rattle.meaning.specs.Layout.{width as element_width, end_count, output_count, net_at, end_gate, output_net};
 ghost use Rattle.blocks.specs.Building.{start_of};
 
 use crate::layout::width;
@@ -25,8 +25,8 @@ fn net_at(closed: &ClosedSheet, nets: &[usize], w: usize, i: usize, b: usize) ->
 // End gate k.
 pub(crate) fn end_gate(block: Block, closed: &ClosedSheet, nets: &[usize], k: usize) -> Gate
     requires few { k < end_count block (account_of closed.now).columns }
-    requires nets { length nets.now ≡ nodes (account_of closed.now) * elementWidth block }
-    ensures { result ≡ end_gate block (account_of closed.now).columns (net_at (elementWidth block) (account_of closed.now) nets.now) k }
+    requires nets { length nets.now ≡ nodes (account_of closed.now) * element_width block }
+    ensures { result ≡ end_gate block (account_of closed.now).columns (net_at (element_width block) (account_of closed.now) nets.now) k }
 {
     let n = closed.columns();
     match block {
@@ -46,8 +46,8 @@ pub(crate) fn output_net(
     requires start { start_of block ≤ 3 }
     requires few { k < output_count block (account_of closed.now).columns }
     requires first { first ≤ 2097152 }
-    requires nets { length nets.now ≡ nodes (account_of closed.now) * elementWidth block }
-    ensures { result ≡ output_net block (account_of closed.now).columns (net_at (elementWidth block) (account_of closed.now) nets.now) first k }
+    requires nets { length nets.now ≡ nodes (account_of closed.now) * element_width block }
+    ensures { result ≡ output_net block (account_of closed.now).columns (net_at (element_width block) (account_of closed.now) nets.now) first k }
 {
     let n = closed.columns();
     match block {

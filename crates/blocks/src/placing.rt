@@ -3,7 +3,7 @@ ghost use Rattle.account.specs.Account.{nodes};
 ghost use Rattle.sheet.specs.Closing.{account_of};
 ghost use Rattle.netlist.specs.Refusals.{count};
 ghost use Rattle.expansion.specs.Expansion.{expanded, written};
-ghost use Rattle.meaning.specs.Layout.{template, results, width as elementWidth, leaf_count, end_count, output_count, leaves, column_nets, first_end, end_gates, buffers};
+ghost use Rattle.meaning.specs.Layout.{template, results, width as element_width, leaf_count, end_count, output_count, leaves, column_nets, first_end, end_gates, buffers};
 ghost use Rattle.blocks.specs.Building.{start_of};
 
 use crate::layout::{column_net, end_count, leaf_count, leaf_gate, output_count, width};
@@ -32,7 +32,7 @@ pub(crate) fn place_leaves(block: Block, n: usize, gates: &mut [Gate])
 // Fills the nets of n columns.
 pub(crate) fn place_columns(block: Block, n: usize, nets: &mut [usize])
     requires few { n ≤ 64 }
-    requires room { n * elementWidth block ≤ length nets.old }
+    requires room { n * element_width block ≤ length nets.old }
     ensures { nets.new ≡ written nets.old 0 (column_nets block n) }
 {
     for k in 0..n * width(block) {
@@ -67,7 +67,7 @@ pub(crate) fn place_ends(
     gates: &mut [Gate],
     at: usize,
 )
-    requires nets { length nets.now ≡ nodes (account_of closed.now) * elementWidth block }
+    requires nets { length nets.now ≡ nodes (account_of closed.now) * element_width block }
     requires room { at + end_count block (account_of closed.now).columns ≤ length gates.old }
     ensures { gates.new ≡ written gates.old at (end_gates block (account_of closed.now) nets.now) }
 {
@@ -86,7 +86,7 @@ pub(crate) fn place_buffers(
     first: usize,
 )
     requires start { start_of block ≤ 3 }
-    requires nets { length nets.now ≡ nodes (account_of closed.now) * elementWidth block }
+    requires nets { length nets.now ≡ nodes (account_of closed.now) * element_width block }
     requires room { at + output_count block (account_of closed.now).columns ≤ length gates.old }
     requires first { (first ≡ first_end block (account_of closed.now)) × (first ≤ 2097152) }
     ensures { gates.new ≡ written gates.old at (buffers block (account_of closed.now) nets.now) }

@@ -49,7 +49,11 @@ fn from_file(rt: &HostRuntime, file: &str) -> Result<(), Failure> {
 fn from_input(rt: &HostRuntime) -> Result<(), Failure> {
     let mut drawing = Drawing::new();
     let mut number: usize = 0;
-    for next in BufReader::new(rt.alloc(), rt.stdin())?.lines(rt.alloc()) {
+    // Only want of memory keeps a reader from being made.
+    let Ok(reader) = BufReader::new(rt.alloc(), rt.stdin()) else {
+        return Err(Failure::Memory);
+    };
+    for next in reader.lines(rt.alloc()) {
         number = number.saturating_add(1);
         match next {
             Ok(text) => line(rt, &mut drawing, number, text.as_str())?,
