@@ -3,7 +3,8 @@
 
 usage: python3 tools/goal_names.py CRATE..      at the top of a checkout
 
-A name of src/ keeps its underscores in such a name, where it once had dashes, and the arm of `_` is in_default.
+A name of src/ keeps its underscores in such a name, where it once had dashes, and so do the words of the check's own, as in_default for
+the arm of `_` and overflow_sub for a subtraction.
 """
 
 import glob
