@@ -1,38 +1,38 @@
-ghost use Rattle.std.specs.Prelude.{◌≡◌, true, false, MatchOption};
-ghost use Rattle.account.specs.Account.{is_family};
-ghost use Rattle.answers.specs.FamilyNumbers.{number_of};
+ghost use Rattle.std.specs.Prelude.{◌≡◌};
+ghost use Rattle.answers.specs.FamilyNumbers.{number_of, Numbers};
 
-// A family of prefix networks.
-#[derive(Clone, Copy)]
+use crate::refusal::Refusal;
+
+// A family of prefix networks, with its number.
+#[derive(Clone, Copy, Debug, PartialEq, Eq, Hash)]
 pub enum Family {
-    Sklansky,
-    KoggeStone,
-    BrentKung,
-    HanCarlson,
+    Sklansky = 1,
+    KoggeStone = 2,
+    BrentKung = 3,
+    HanCarlson = 4,
 }
 
 impl Family {
-    // The family of a number, if it is 1 to 4.
-    pub fn numbered(number: usize) -> Option<Family>
-        ensures { MatchOption result (is_family number ≡ false) (λ f. (is_family number ≡ true) × (number_of f ≡ number)) }
-    {
-        match number {
-            1 => Some(Family::Sklansky),
-            2 => Some(Family::KoggeStone),
-            3 => Some(Family::BrentKung),
-            4 => Some(Family::HanCarlson),
-            _ => None,
-        }
-    }
-
     pub fn number(self) -> usize
         ensures { result ≡ number_of self }
     {
-        match self {
-            Family::Sklansky => 1,
-            Family::KoggeStone => 2,
-            Family::BrentKung => 3,
-            Family::HanCarlson => 4,
+        self as usize
+    }
+}
+
+// The family of a number, if it is 1 to 4.
+impl TryFrom<usize> for Family {
+    type Error = Refusal;
+
+    ghost try_from_gives = { Numbers };
+
+    fn try_from(number: usize) -> Result<Family, Refusal> {
+        match number {
+            1 => Ok(Family::Sklansky),
+            2 => Ok(Family::KoggeStone),
+            3 => Ok(Family::BrentKung),
+            4 => Ok(Family::HanCarlson),
+            _ => Err(Refusal::NoFamily(number)),
         }
     }
 }

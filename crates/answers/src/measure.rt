@@ -1,7 +1,7 @@
 use std::fmt;
 
 // What is measured of a closed sheet.
-#[derive(Clone, Copy)]
+#[derive(Clone, Copy, Debug, PartialEq, Eq, Hash)]
 pub struct Measure {
     pub joins: usize,
     pub depth: usize,
@@ -10,9 +10,10 @@ pub struct Measure {
 
 impl fmt::Display for Measure {
     fn fmt<W: fmt::Write>(&self, f: &mut fmt::Formatter<W>) -> fmt::Result {
-        let joins = self.joins;
-        let depth = self.depth;
-        let fan_out = self.fan_out;
-        write!(f, "joins {joins}, depth {depth}, fan-out {fan_out}")
+        write!(
+            f,
+            "joins {}, depth {}, fan-out {}",
+            self.joins, self.depth, self.fan_out
+        )
     }
 }

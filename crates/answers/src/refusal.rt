@@ -1,10 +1,11 @@
 ghost use Rattle.std.specs.Prelude.{◌≡◌};
 ghost use Rattle.answers.specs.Refusals.{refusal, number_of};
 
+use std::error::Error;
 use std::fmt;
 
 // An operand of a join.
-#[derive(Clone, Copy)]
+#[derive(Clone, Copy, Debug, PartialEq, Eq, Hash)]
 pub enum Side {
     Low,
     High,
@@ -12,15 +13,15 @@ pub enum Side {
 
 impl fmt::Display for Side {
     fn fmt<W: fmt::Write>(&self, f: &mut fmt::Formatter<W>) -> fmt::Result {
-        match self {
-            Side::Low => write!(f, "low"),
-            Side::High => write!(f, "high"),
-        }
+        f.write_str(match self {
+            Side::Low => "low",
+            Side::High => "high",
+        })
     }
 }
 
 // Why a call on a sheet was refused.
-#[derive(Clone, Copy)]
+#[derive(Clone, Copy, Debug, PartialEq, Eq, Hash)]
 pub enum Refusal {
     Width(usize),
     NoNode(usize, Side),
@@ -33,7 +34,7 @@ pub enum Refusal {
 }
 
 impl Refusal {
-    // The refusal's number.
+    // The refusal's number; most cases carry values, so that it is no discriminant.
     pub fn number(&self) -> usize
         ensures { result ≡ number_of (refusal self.now) }
     {
@@ -87,3 +88,5 @@ impl fmt::Display for Refusal {
         }
     }
 }
+
+impl Error for Refusal {}

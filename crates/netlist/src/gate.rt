@@ -1,10 +1,11 @@
 ghost use Rattle.std.specs.Prelude.{◌≡◌, ◌+◌, ◌<◌, nat_lt};
+ghost use Rattle.std.specs.List.{prefix_len, enumerate_from};
 ghost use Rattle.netlist.specs.Gates.{constant_gate, one_gate, two_gate, good, good_from};
 
 // A gate of a netlist with m inputs. Signals 0 to m - 1 are the inputs, gate k is signal m + k.
 // The arity, 0 to 2, says how many of the operands a and b it reads; both are signal numbers.
 // Bit r of the table is the gate's value at row r: row 0, row a, or row 2a + b by arity.
-#[derive(Clone, Copy)]
+#[derive(Clone, Copy, Debug, PartialEq, Eq, Hash)]
 pub struct Gate {
     pub arity: u8,
     pub a: usize,
@@ -63,6 +64,7 @@ impl Gate {
 
     // Whether this is a good gate as gate k of a netlist with m inputs: it reads signals below its own,
     // its unused operands are 0, and its table has no bit past its rows.
+    #[tactic(auto, unfolding(crate::specs::Gates::good))]
     pub fn is_good(self, m: usize, k: usize) -> bool
         ensures { result ≡ good (m + k) self }
     {
@@ -79,17 +81,23 @@ impl Gate {
 fn is_below(signal: usize, m: usize, k: usize) -> bool
     ensures { result ≡ nat_lt signal (m + k) }
 {
-    if signal < m { true } else { signal - m < k }
+    signal < m || signal - m < k
+}
+
+// The gates at the front that are good, each as the gate of its index.
+fn good_front(gates: &[Gate], m: usize) -> usize
+    ensures { result ≡ prefix_len (λ p. good (m + p.0) p.1) (enumerate_from 0 gates.now) }
+{
+    gates
+        .iter()
+        .enumerate()
+        .take_while(|(k, gate)| gate.is_good(m, *k))
+        .count()
 }
 
 // How many gates of a netlist with m inputs are good, up to the first that is not.
 pub fn good_gates(gates: &[Gate], m: usize) -> usize
     ensures { result ≡ good_from m gates.now }
 {
-    for k in 0..gates.len() {
-        if !gates[k].is_good(m, k) {
-            return k;
-        }
-    }
-    gates.len()
+    good_front(gates, m)
 }

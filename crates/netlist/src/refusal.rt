@@ -1,46 +1,41 @@
 ghost use Rattle.std.specs.Prelude.{◌≡◌, [], ◌∷◌};
 ghost use Rattle.netlist.specs.Refusals.{number_of, values_of, slots_number};
 
+use std::error::Error;
 use std::fmt;
 
-// A table that has too few slots.
-#[derive(Clone, Copy)]
+// A table that has too few slots, with its number.
+#[derive(Clone, Copy, Debug, PartialEq, Eq, Hash)]
 pub enum Slots {
-    Inputs,
-    Gates,
-    Names,
-    Outputs,
-    Text,
+    Inputs = 0,
+    Gates = 1,
+    Names = 2,
+    Outputs = 3,
+    Text = 4,
 }
 
 impl Slots {
     pub fn number(self) -> usize
         ensures { result ≡ slots_number self }
     {
-        match self {
-            Slots::Inputs => 0,
-            Slots::Gates => 1,
-            Slots::Names => 2,
-            Slots::Outputs => 3,
-            Slots::Text => 4,
-        }
+        self as usize
     }
 }
 
 impl fmt::Display for Slots {
     fn fmt<W: fmt::Write>(&self, f: &mut fmt::Formatter<W>) -> fmt::Result {
-        match self {
-            Slots::Inputs => write!(f, "inputs"),
-            Slots::Gates => write!(f, "gates"),
-            Slots::Names => write!(f, "names"),
-            Slots::Outputs => write!(f, "outputs"),
-            Slots::Text => write!(f, "text"),
-        }
+        f.write_str(match self {
+            Slots::Inputs => "inputs",
+            Slots::Gates => "gates",
+            Slots::Names => "names",
+            Slots::Outputs => "outputs",
+            Slots::Text => "text",
+        })
     }
 }
 
 // Why a call on a netlist did nothing.
-#[derive(Clone, Copy)]
+#[derive(Clone, Copy, Debug, PartialEq, Eq, Hash)]
 pub enum Refusal {
     // A list, a number of inputs or a used count that is not as the call wants it.
     Length(usize),
@@ -55,7 +50,7 @@ pub enum Refusal {
 }
 
 impl Refusal {
-    // The number under which the refusal is known.
+    // The number under which the refusal is known; each case carries a value, so that it is no discriminant.
     pub fn number(&self) -> u8
         ensures { result ≡ number_of self.now }
     {
@@ -106,3 +101,5 @@ impl fmt::Display for Refusal {
         }
     }
 }
+
+impl Error for Refusal {}

@@ -18,12 +18,7 @@ pub const MOST_GATES: usize = 1048576;
 fn bits_in(inputs: &[u8]) -> usize
     ensures { result ≡ prefix_len is_bit inputs.now }
 {
-    for (i, b) in inputs.iter().enumerate() {
-        if *b >= 2 {
-            return i;
-        }
-    }
-    inputs.len()
+    inputs.iter().take_while(|b| **b < 2).count()
 }
 
 // Fills the value slots with the signals of a netlist whose gates are good.
@@ -34,9 +29,8 @@ fn fill(inputs: &[u8], gates: &[Gate], values: &mut [u8])
 {
     let m = inputs.len();
     values[0..m].copy_from_slice(inputs);
-    for k in 0..gates.len() {
-        let gate = gates[k];
-        values[m + k] = gate_value(gate, values[gate.a], values[gate.b]);
+    for (k, gate) in gates.iter().enumerate() {
+        values[m + k] = gate_value(*gate, values[gate.a], values[gate.b]);
     }
 }
 

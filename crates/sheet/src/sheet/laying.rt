@@ -82,9 +82,7 @@ impl Sheet {
         ensures sized { IfOk result (λ v. v ≡ size_of family self.old.columns) }
         ensures deep { OnOk result (depth_of (account self.new) ≡ depth_of_family family self.old.columns) }
     {
-        let Some(chosen) = Family::numbered(family) else {
-            return Err(Refusal::NoFamily(family));
-        };
+        let chosen = Family::try_from(family)?;
         let joins = self.joins();
         if joins > 0 {
             return Err(Refusal::NotBare(joins));

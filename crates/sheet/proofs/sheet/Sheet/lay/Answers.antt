@@ -29,10 +29,10 @@ returns c =
     let s = c.args.self.now in let f = c.args.family in let n = s.columns in
     let t : Sheet = c.lay_levels.new.self in
     let w = c.lay_levels.ensures.wide in
-    let is = c.in-Some.ensures.1 in
+    let is = c.in_ok-chosen.ensures.1 in
     let j : (account t).joins ≡ family f n = c.lay_levels.ensures.joins ∙ ap (λ (g : ℕ). family g n) is in
-    let l : 1 ≤ f = omega (arith, is, number_least c.in-Some.chosen) in
-    let u : f ≤ 4 = omega (arith, is, number_most c.in-Some.chosen) in
+    let l : 1 ≤ f = omega (arith, is, number_least c.in_ok-chosen.chosen) in
+    let u : f ≤ 4 = omega (arith, is, number_most c.in_ok-chosen.chosen) in
     let made : account t ≡ family_account f n = λ i. record { columns = w i; joins = j i } in
     let stands = family_stands_lem f n l u s.wide.0 s.wide.1 in
     let size = c.joins.ensures.0 ∙ ap length j in
