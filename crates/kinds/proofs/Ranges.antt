@@ -3,20 +3,26 @@ use Rattle.std.proofs.Common.{◌≡◌, ℕ, zero, suc, ◌+◌, ◌<◌, ◌�
 use Rattle.std.proofs.lemmas.Bool.{ltb-true, lt-ltb, and_parts}
 use Rattle.std.proofs.lemmas.Bool.Decides.{nat_tests}
 use Rattle.kinds.specs.declared.template.TemplateGate.{TemplateGate}
+use Rattle.kinds.specs.declared.template.TemplateGate.TheVariants.{Zero, One, Two}
 use Rattle.kinds.specs.declared.template.Pin.{Pin}
 use Rattle.kinds.specs.declared.template.Pin.TheVariants.{Low, High, Inner}
 use Rattle.kinds.specs.Template.{within, keeps, formed, reach}
 
--- what a gate that keeps its rule reads
-pub record Reads (w k : ℕ) (g : TemplateGate) : Type 0 where
-  pub least : 1 ≤ g.arity
-  pub most : g.arity ≤ 2
-  pub first : within w k g.a ≡ true
-  pub second : 1 < g.arity → within w k g.b ≡ true
+-- what a good gate of one operand reads, and one of two
+pub record ReadsOne (w k t : ℕ) (a : Pin) : Type 0 where
+  pub table : t < 4
+  pub first : within w k a ≡ true
 
-pub reads : (w k : ℕ) (g : TemplateGate) → keeps w k g ≡ true → Reads w k g
-reads w k g e = record
-    { least = grind (arith, nat_tests); most = grind (arith, nat_tests); first = grind (arith, nat_tests); second = λ h. grind (arith, nat_tests) }
+pub record ReadsTwo (w k t : ℕ) (a b : Pin) : Type 0 where
+  pub table : t < 16
+  pub first : within w k a ≡ true
+  pub second : within w k b ≡ true
+
+pub reads_one : (w k t : ℕ) (a : Pin) → keeps w k (One t a) ≡ true → ReadsOne w k t a
+reads_one w k t a e = record { table = grind (arith, nat_tests); first = grind (arith, nat_tests) }
+
+pub reads_two : (w k t : ℕ) (a b : Pin) → keeps w k (Two t a b) ≡ true → ReadsTwo w k t a b
+reads_two w k t a b e = record { table = grind (arith, nat_tests); first = grind (arith, nat_tests); second = grind (arith, nat_tests) }
 
 within_more : (w k n : ℕ) (p : Pin) → k ≤ n → within w k p ≡ true → within w n p ≡ true
 within_more w k n (Low j) h e = e
@@ -24,10 +30,15 @@ within_more w k n (High j) h e = e
 within_more w k n (Inner j) h e = lt-ltb j n (omega (arith, ltb-true j k e))
 
 keeps_more : (w k n : ℕ) (g : TemplateGate) → k ≤ n → keeps w k g ≡ true → keeps w n g ≡ true
-keeps_more w k n g h e =
-    let r = reads w k g e in
-    let a : within w n g.a ≡ true = within_more w k n g.a h r.first in
-    let b : 1 < g.arity → within w n g.b ≡ true = λ z. within_more w k n g.b h (r.second z) in
+keeps_more w k n Zero h e = e
+keeps_more w k n (One t a) h e =
+    let r = reads_one w k t a e in
+    let x : within w n a ≡ true = within_more w k n a h r.first in
+    grind (arith, nat_tests)
+keeps_more w k n (Two t a b) h e =
+    let r = reads_two w k t a b e in
+    let x : within w n a ≡ true = within_more w k n a h r.first in
+    let y : within w n b ≡ true = within_more w k n b h r.second in
     grind (arith, nat_tests)
 
 -- each gate of a template reads what there is

@@ -1,6 +1,6 @@
 -- The laws of the four kinds, for the proofs that speak of their definitions and hold no value of the kind.
 use Rattle.std.proofs.Common.{rules}
-use Rattle.std.specs.Prelude.{◌≡◌, Bool, refl}
+use Rattle.std.specs.Prelude.{◌≡◌, Bool}
 use Rattle.kinds.specs.Template.{shown}
 use Rattle.kinds.specs.Carry.{carry_unit, carry_product, carry_bits, carry_gates, carry_results}
 use Rattle.kinds.specs.Parity.{parity_unit, parity_product, parity_bits, parity_gates, parity_results}
@@ -9,7 +9,7 @@ use Rattle.kinds.specs.Map.{map_unit, map_product, map_bits, map_gates, map_resu
 use Rattle.kinds.specs.declared.elements.Carry.{Carry}
 use Rattle.kinds.specs.declared.elements.Verdict.{Verdict}
 use Rattle.kinds.specs.declared.elements.Map.{Map}
-use Rattle.kinds.specs.Select.{selects_low, selects_high, and_then}
+use Rattle.kinds.specs.Select.{selects_low, selects_high}
 
 pub carry_associative : (x y z : Carry) → carry_product (carry_product x y) z ≡ carry_product x (carry_product y z)
 carry_associative x y z = search rules
@@ -48,8 +48,4 @@ pub map_right : (x : Map) → map_product x map_unit ≡ x
 map_right x = search rules
 
 pub map_template : (l h : Map) → shown map_gates map_results (map_bits l) (map_bits h) ≡ map_bits (map_product l h)
-map_template l h =
-    and_then (selects_low l.e0 h) (and_then (selects_high l.e0 h)
-    (and_then (selects_low l.e1 h) (and_then (selects_high l.e1 h)
-    (and_then (selects_low l.e2 h) (and_then (selects_high l.e2 h)
-    (and_then (selects_low l.e3 h) (and_then (selects_high l.e3 h) refl)))))))
+map_template l h = simp (selects_low, selects_high)

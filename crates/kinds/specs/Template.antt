@@ -1,6 +1,7 @@
 -- A template: gates over the bits of two elements, low and high, and the pins that show the product's bits.
-use Rattle.std.specs.Prelude.{ℕ, ◌+◌, Bool, true, cond, ◌&&◌, List, [], ◌∷◌, ◌++◌, map, fold, ◌==◌, nat_lt, slice_index}
+use Rattle.std.specs.Prelude.{ℕ, ◌+◌, Bool, true, false, cond, ◌&&◌, List, [], ◌∷◌, ◌++◌, map, fold, nat_lt, slice_index}
 use Rattle.kinds.specs.declared.template.TemplateGate.{TemplateGate}
+use Rattle.kinds.specs.declared.template.TemplateGate.TheVariants.{Zero, One, Two}
 use Rattle.kinds.specs.declared.template.Pin.{Pin}
 use Rattle.kinds.specs.declared.template.Pin.TheVariants.{Low, High, Inner}
 use Rattle.netlist.specs.Gates.{row_value}
@@ -10,14 +11,14 @@ bit_of b = cond b 1 0
 
 -- A gate of one operand, and one of two.
 abbrev pub one : ℕ → Pin → TemplateGate
-one table a = record { arity = 1; a = a; b = Low 0; table = table }
+one table a = One table a
 
 abbrev pub two : ℕ → Pin → Pin → TemplateGate
-two table a b = record { arity = 2; a = a; b = b; table = table }
+two table a b = Two table a b
 
 -- The gate that stands past a template's end.
 abbrev pub blank : TemplateGate
-blank = record { arity = 0; a = Low 0; b = Low 0; table = 0 }
+blank = Zero
 
 -- What a pin reads, where inner are the values of the earlier gates.
 abbrev pub pin : List ℕ → List ℕ → List ℕ → Pin → ℕ
@@ -25,8 +26,14 @@ pin low high inner (Low k) = slice_index low k
 pin low high inner (High k) = slice_index high k
 pin low high inner (Inner k) = slice_index inner k
 
+-- What a gate shows: the bit of its table at the row that its pins pick.
+abbrev pub gate : List ℕ → List ℕ → List ℕ → TemplateGate → ℕ
+gate low high inner Zero = 0
+gate low high inner (One t a) = row_value 1 t (pin low high inner a) 0
+gate low high inner (Two t a b) = row_value 2 t (pin low high inner a) (pin low high inner b)
+
 abbrev pub next : List ℕ → List ℕ → List ℕ → TemplateGate → List ℕ
-next low high inner g = inner ++ row_value g.arity g.table (pin low high inner g.a) (pin low high inner g.b) ∷ []
+next low high inner g = inner ++ gate low high inner g ∷ []
 
 -- The values of the template's gates.
 abbrev pub evaluated : List TemplateGate → List ℕ → List ℕ → List ℕ
@@ -42,11 +49,11 @@ within w k (Low j) = nat_lt j w
 within w k (High j) = nat_lt j w
 within w k (Inner j) = nat_lt j k
 
--- Gate k of a template over elements of w bits is good: one or two operands within their range, and a table for them.
+-- Gate k of a template over elements of w bits is good: it reads one or two pins within their range, and has a table for them.
 abbrev pub keeps : ℕ → ℕ → TemplateGate → Bool
-keeps w k g =
-    cond (g.arity == 1) (nat_lt g.table 4 && within w k g.a)
-    (g.arity == 2 && (nat_lt g.table 16 && (within w k g.a && within w k g.b)))
+keeps w k Zero = false
+keeps w k (One t a) = nat_lt t 4 && within w k a
+keeps w k (Two t a b) = nat_lt t 16 && (within w k a && within w k b)
 
 -- Each gate is good, the first being gate k.
 abbrev pub formed : ℕ → ℕ → List TemplateGate → Bool

@@ -1,36 +1,20 @@
-ghost use Rattle.std.specs.Prelude.{◌≡◌, slice_index, slice_index_or};
-ghost use Rattle.kinds.specs.declared.template.Pin.TheVariants.{Low};
-ghost use Rattle.kinds.specs.Template.{blank};
 ghost use Rattle.kinds.specs.Carry.{carry_unit, carry_product, carry_bits, carry_gates, carry_results};
+ghost use Rattle.kinds.specs.Laws.{carry_associative, carry_left, carry_right, carry_template};
 ghost use Rattle.std.proofs.Common.{rules};
 
 use crate::elements::Carry;
 use crate::kind::Kind;
-use crate::template::{Pin, TemplateGate, gate_at, pin_at};
+use crate::template::Pin::{self, High, Inner, Low};
+use crate::template::TemplateGate::{self, Two};
 use netlist::gate::{AND, OR};
 
 const GATES: [TemplateGate; 3] = [
-    TemplateGate {
-        arity: 2,
-        a: Pin::High(1),
-        b: Pin::Low(0),
-        table: AND,
-    },
-    TemplateGate {
-        arity: 2,
-        a: Pin::High(0),
-        b: Pin::Inner(0),
-        table: OR,
-    },
-    TemplateGate {
-        arity: 2,
-        a: Pin::High(1),
-        b: Pin::Low(1),
-        table: AND,
-    },
+    Two(AND, High(1), Low(0)),
+    Two(OR, High(0), Inner(0)),
+    Two(AND, High(1), Low(1)),
 ];
 
-const RESULTS: [Pin; 2] = [Pin::Inner(1), Pin::Inner(2)];
+const RESULTS: [Pin; 2] = [Inner(1), Inner(2)];
 
 // Carries: high generates one, or passes on the one that low generates.
 pub struct Carries;
@@ -39,6 +23,8 @@ impl Kind for Carries {
     type Element = Carry;
 
     const NETS: usize = 2;
+
+    ghost NETS = { 2 };
 
     ghost neutral = { carry_unit };
 
@@ -50,41 +36,39 @@ impl Kind for Carries {
 
     ghost results = { carry_results };
 
-    ghost associative = { Prim.search rules };
+    ghost counted = { Prim.search rules };
 
-    ghost left = { Prim.search rules };
+    ghost narrow = { Prim.search rules };
 
-    ghost right = { Prim.search rules };
+    ghost associative = { carry_associative };
+
+    ghost left = { carry_left };
+
+    ghost right = { carry_right };
 
     ghost wide = { Prim.search rules };
 
-    ghost template = { Prim.search rules };
+    ghost template = { carry_template };
 
     ghost well_formed = { Prim.search rules };
 
     ghost reaching = { Prim.search rules };
 
-    fn unit() -> Carry
-        ensures { result ≡ carry_unit }
-    {
+    fn unit() -> Carry {
         Carry {
             generate: false,
             propagate: true,
         }
     }
 
-    fn product(low: Carry, high: Carry) -> Carry
-        ensures { result ≡ carry_product low high }
-    {
+    fn product(low: Carry, high: Carry) -> Carry {
         Carry {
             generate: high.generate | (high.propagate & low.generate),
             propagate: high.propagate & low.propagate,
         }
     }
 
-    fn bit(x: Carry, b: usize) -> u8
-        ensures { result ≡ slice_index (carry_bits x) b }
-    {
+    fn bit(x: Carry, b: usize) -> u8 {
         match b {
             0 => x.generate as u8,
             1 => x.propagate as u8,
@@ -92,27 +76,15 @@ impl Kind for Carries {
         }
     }
 
-    fn width() -> usize
-        ensures { result ≡ 2 }
-    {
-        Self::NETS
-    }
-
-    fn size() -> usize
-        ensures { result ≡ 3 }
-    {
+    fn size() -> usize {
         GATES.len()
     }
 
-    fn gate(k: usize) -> TemplateGate
-        ensures { result ≡ slice_index_or carry_gates k blank }
-    {
-        gate_at(&GATES, k)
+    fn gate(k: usize) -> TemplateGate {
+        GATES.get(k).copied().unwrap_or(TemplateGate::Zero)
     }
 
-    fn result(b: usize) -> Pin
-        ensures { result ≡ slice_index_or carry_results b (Low 0) }
-    {
-        pin_at(&RESULTS, b)
+    fn result(b: usize) -> Pin {
+        RESULTS.get(b).copied().unwrap_or(Low(0))
     }
 }

@@ -3,43 +3,39 @@ ghost use Rattle.kinds.specs.Verdict.{verdict_number};
 ghost use Rattle.kinds.specs.Map.{entry_at, low_bit, high_bit, state_number, byte_of};
 
 // A carry over some columns: whether they generate one, and whether they pass one on.
-#[derive(Clone, Copy)]
+#[derive(Clone, Copy, Debug, PartialEq, Eq, Hash)]
 pub struct Carry {
     pub generate: bool,
     pub propagate: bool,
 }
 
 // How two numbers compare over some columns.
-#[derive(Clone, Copy)]
+#[derive(Clone, Copy, Debug, PartialEq, Eq, Hash)]
 pub enum Verdict {
-    Equal,
-    Less,
-    Greater,
+    Equal = 0,
+    Less = 1,
+    Greater = 2,
 }
 
 impl Verdict {
     pub fn number(self) -> u8
         ensures { result ≡ verdict_number self }
     {
-        match self {
-            Verdict::Equal => 0,
-            Verdict::Less => 1,
-            Verdict::Greater => 2,
-        }
+        self as u8
     }
 }
 
 // A state of a machine that has four.
-#[derive(Clone, Copy)]
+#[derive(Clone, Copy, Debug, PartialEq, Eq, Hash)]
 pub enum State {
-    S0,
-    S1,
-    S2,
-    S3,
+    S0 = 0,
+    S1 = 1,
+    S2 = 2,
+    S3 = 3,
 }
 
 impl State {
-    // The state whose number is n modulo 4.
+    // The state whose number is n modulo 4. No `From`: it forgets the rest of n.
     pub(crate) fn wrapped(n: u8) -> State
         ensures { state_number result ≡ n % 4 }
     {
@@ -51,39 +47,31 @@ impl State {
         }
     }
 
-    pub(crate) fn number(self) -> u8
-        ensures is { result ≡ state_number self }
-        ensures small { result < 4 }
-    {
-        match self {
-            State::S0 => 0,
-            State::S1 => 1,
-            State::S2 => 2,
-            State::S3 => 3,
-        }
-    }
-
     pub(crate) fn low_bit(self) -> u8
         ensures { result ≡ low_bit self }
     {
-        match self {
-            State::S0 | State::S2 => 0,
-            State::S1 | State::S3 => 1,
-        }
+        u8::from(self) % 2
     }
 
     pub(crate) fn high_bit(self) -> u8
         ensures { result ≡ high_bit self }
     {
-        match self {
-            State::S0 | State::S1 => 0,
-            State::S2 | State::S3 => 1,
-        }
+        u8::from(self) / 2
+    }
+}
+
+// The number of a state.
+impl From<State> for u8 {
+    ghost from_gives = { λ s n. n ≡ state_number s };
+
+    fn from(s: State) -> u8 {
+        s as u8
     }
 }
 
 // A map of the four states: entry s, the field es, is the state that state s goes to.
-#[derive(Clone, Copy)]
+// Four fields and no array: the logic sees an array as a list of any length, and the laws hold of four.
+#[derive(Clone, Copy, Debug, PartialEq, Eq, Hash)]
 pub struct Map {
     pub e0: State,
     pub e1: State,
@@ -103,11 +91,13 @@ impl Map {
             State::S3 => self.e3,
         }
     }
+}
 
-    // The map of a byte, whose bits 2s and 2s + 1 hold entry s.
-    pub fn from_byte(b: u8) -> Map
-        ensures { byte_of result ≡ b }
-    {
+// The map of a byte, whose bits 2s and 2s + 1 hold entry s.
+impl From<u8> for Map {
+    ghost from_gives = { λ b m. byte_of m ≡ b };
+
+    fn from(b: u8) -> Map {
         Map {
             e0: State::wrapped(b),
             e1: State::wrapped(b / 4),
@@ -115,11 +105,13 @@ impl Map {
             e3: State::wrapped(b / 64),
         }
     }
+}
 
-    // The byte of the map.
-    pub fn to_byte(self) -> u8
-        ensures { result ≡ byte_of self }
-    {
-        self.e0.number() + 4 * self.e1.number() + 16 * self.e2.number() + 64 * self.e3.number()
+// The byte of a map.
+impl From<Map> for u8 {
+    ghost from_gives = { λ m b. b ≡ byte_of m };
+
+    fn from(m: Map) -> u8 {
+        u8::from(m.e0) + 4 * u8::from(m.e1) + 16 * u8::from(m.e2) + 64 * u8::from(m.e3)
     }
 }

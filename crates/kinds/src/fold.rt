@@ -1,4 +1,4 @@
-ghost use Rattle.std.specs.Prelude.{◌≡◌, ◌<◌, fold};
+ghost use Rattle.std.specs.Prelude.{◌≡◌, fold};
 
 use crate::kind::Kind;
 
@@ -6,9 +6,7 @@ use crate::kind::Kind;
 pub fn fold<K: Kind>(elements: &[K::Element]) -> K::Element
     ensures { result ≡ fold K.Kind.times K.Kind.neutral elements.now }
 {
-    let mut total = K::unit();
-    for x in elements {
-        total = K::product(total, *x);
-    }
-    total
+    elements
+        .iter()
+        .fold(K::unit(), |total, x| K::product(total, *x))
 }

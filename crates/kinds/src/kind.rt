@@ -11,8 +11,10 @@ use crate::template::{Pin, TemplateGate};
 pub trait Kind {
     type Element: Copy;
 
-    // The number of nets that carry an element. `width` promises its limits.
+    // The number of nets that carry an element, 1 to 16.
     const NETS: usize;
+
+    ghost NETS: { ℕ };
 
     ghost neutral: { Self.Element };
 
@@ -35,23 +37,32 @@ pub trait Kind {
     fn bit(x: Self::Element, b: usize) -> u8
         ensures { result ≡ slice_index (bits x) b };
 
-    // The number of nets, 1 to 16.
-    fn width() -> usize
+    // The number of nets.
+    final fn width() -> usize
         ensures is { result ≡ length results }
-        ensures most { (1 ≤ result) × (result ≤ 16) };
+        ensures most { (1 ≤ result) × (result ≤ 16) }
+    {
+        Self::NETS
+    }
+
+    // The template is asked for gate by gate, and not lent: a kind made of others has no table of its own.
 
     // The number of the template's gates, at most 256.
     fn size() -> usize
         ensures is { result ≡ length gates }
         ensures most { result ≤ 256 };
 
-    // Gate k of the template.
+    // Gate k of the template, past its end the one that reads nothing.
     fn gate(k: usize) -> TemplateGate
         ensures { result ≡ slice_index_or gates k blank };
 
     // The pin that shows bit b of the product.
     fn result(b: usize) -> Pin
         ensures { result ≡ slice_index_or results b (Low 0) };
+
+    ghost counted: { NETS ≡ length results };
+
+    ghost narrow: { (1 ≤ NETS) × (NETS ≤ 16) };
 
     ghost associative: { (x y z : Self.Element) → times (times x y) z ≡ times x (times y z) };
 

@@ -1,14 +1,11 @@
-ghost use Rattle.std.specs.Prelude.{◌≡◌, slice_index, slice_index_or};
-ghost use Rattle.kinds.specs.declared.template.Pin.TheVariants.{Low};
-ghost use Rattle.kinds.specs.Template.{blank};
 ghost use Rattle.kinds.specs.Map.{map_unit, map_product, map_bits, map_gates, map_results};
-ghost use Rattle.kinds.specs.Laws.{map_template};
+ghost use Rattle.kinds.specs.Laws.{map_associative, map_right, map_template};
 ghost use Rattle.std.proofs.Common.{rules};
 
 use crate::elements::{Map, State};
 use crate::kind::Kind;
 use crate::maptable::{GATES, RESULTS};
-use crate::template::{Pin, TemplateGate, gate_at, pin_at};
+use crate::template::{Pin, TemplateGate};
 
 // Maps of four states: low's first, then high's.
 pub struct Maps;
@@ -17,6 +14,8 @@ impl Kind for Maps {
     type Element = Map;
 
     const NETS: usize = 8;
+
+    ghost NETS = { 8 };
 
     ghost neutral = { map_unit };
 
@@ -28,23 +27,25 @@ impl Kind for Maps {
 
     ghost results = { map_results };
 
-    ghost associative = { Prim.search rules };
+    ghost counted = { Prim.search rules };
+
+    ghost narrow = { Prim.search rules };
+
+    ghost associative = { map_associative };
 
     ghost left = { Prim.search rules };
 
-    ghost right = { Prim.search rules };
+    ghost right = { map_right };
 
     ghost wide = { Prim.search rules };
 
-    ghost template = { λ l h. map_template l h };
+    ghost template = { map_template };
 
     ghost well_formed = { Prim.search rules };
 
     ghost reaching = { Prim.search rules };
 
-    fn unit() -> Map
-        ensures { result ≡ map_unit }
-    {
+    fn unit() -> Map {
         Map {
             e0: State::S0,
             e1: State::S1,
@@ -53,9 +54,7 @@ impl Kind for Maps {
         }
     }
 
-    fn product(low: Map, high: Map) -> Map
-        ensures { result ≡ map_product low high }
-    {
+    fn product(low: Map, high: Map) -> Map {
         Map {
             e0: high.at(low.e0),
             e1: high.at(low.e1),
@@ -64,9 +63,7 @@ impl Kind for Maps {
         }
     }
 
-    fn bit(x: Map, b: usize) -> u8
-        ensures { result ≡ slice_index (map_bits x) b }
-    {
+    fn bit(x: Map, b: usize) -> u8 {
         match b {
             0 => x.e0.low_bit(),
             1 => x.e0.high_bit(),
@@ -80,27 +77,15 @@ impl Kind for Maps {
         }
     }
 
-    fn width() -> usize
-        ensures { result ≡ 8 }
-    {
-        Self::NETS
-    }
-
-    fn size() -> usize
-        ensures { result ≡ 80 }
-    {
+    fn size() -> usize {
         GATES.len()
     }
 
-    fn gate(k: usize) -> TemplateGate
-        ensures { result ≡ slice_index_or map_gates k blank }
-    {
-        gate_at(&GATES, k)
+    fn gate(k: usize) -> TemplateGate {
+        GATES.get(k).copied().unwrap_or(TemplateGate::Zero)
     }
 
-    fn result(b: usize) -> Pin
-        ensures { result ≡ slice_index_or map_results b (Low 0) }
-    {
-        pin_at(&RESULTS, b)
+    fn result(b: usize) -> Pin {
+        RESULTS.get(b).copied().unwrap_or(Pin::Low(0))
     }
 }

@@ -1,21 +1,15 @@
-ghost use Rattle.std.specs.Prelude.{◌≡◌, slice_index, slice_index_or};
-ghost use Rattle.kinds.specs.declared.template.Pin.TheVariants.{Low};
-ghost use Rattle.kinds.specs.Template.{blank};
 ghost use Rattle.kinds.specs.Parity.{parity_unit, parity_product, parity_bits, parity_gates, parity_results};
+ghost use Rattle.kinds.specs.Laws.{parity_associative, parity_right, parity_template};
 ghost use Rattle.std.proofs.Common.{rules};
 
 use crate::kind::Kind;
-use crate::template::{Pin, TemplateGate, gate_at, pin_at};
+use crate::template::Pin::{self, High, Inner, Low};
+use crate::template::TemplateGate::{self, Two};
 use netlist::gate::XOR;
 
-const GATES: [TemplateGate; 1] = [TemplateGate {
-    arity: 2,
-    a: Pin::Low(0),
-    b: Pin::High(0),
-    table: XOR,
-}];
+const GATES: [TemplateGate; 1] = [Two(XOR, Low(0), High(0))];
 
-const RESULTS: [Pin; 1] = [Pin::Inner(0)];
+const RESULTS: [Pin; 1] = [Inner(0)];
 
 // Parities: whether the number of ones is odd.
 pub struct Parities;
@@ -24,6 +18,8 @@ impl Kind for Parities {
     type Element = bool;
 
     const NETS: usize = 1;
+
+    ghost NETS = { 1 };
 
     ghost neutral = { parity_unit };
 
@@ -35,62 +31,48 @@ impl Kind for Parities {
 
     ghost results = { parity_results };
 
-    ghost associative = { Prim.search rules };
+    ghost counted = { Prim.search rules };
+
+    ghost narrow = { Prim.search rules };
+
+    ghost associative = { parity_associative };
 
     ghost left = { Prim.search rules };
 
-    ghost right = { Prim.search rules };
+    ghost right = { parity_right };
 
     ghost wide = { Prim.search rules };
 
-    ghost template = { Prim.search rules };
+    ghost template = { parity_template };
 
     ghost well_formed = { Prim.search rules };
 
     ghost reaching = { Prim.search rules };
 
-    fn unit() -> bool
-        ensures { result ≡ parity_unit }
-    {
+    fn unit() -> bool {
         false
     }
 
-    fn product(low: bool, high: bool) -> bool
-        ensures { result ≡ parity_product low high }
-    {
+    fn product(low: bool, high: bool) -> bool {
         low ^ high
     }
 
-    fn bit(x: bool, b: usize) -> u8
-        ensures { result ≡ slice_index (parity_bits x) b }
-    {
+    fn bit(x: bool, b: usize) -> u8 {
         match b {
             0 => x as u8,
             _ => 0,
         }
     }
 
-    fn width() -> usize
-        ensures { result ≡ 1 }
-    {
-        Self::NETS
-    }
-
-    fn size() -> usize
-        ensures { result ≡ 1 }
-    {
+    fn size() -> usize {
         GATES.len()
     }
 
-    fn gate(k: usize) -> TemplateGate
-        ensures { result ≡ slice_index_or parity_gates k blank }
-    {
-        gate_at(&GATES, k)
+    fn gate(k: usize) -> TemplateGate {
+        GATES.get(k).copied().unwrap_or(TemplateGate::Zero)
     }
 
-    fn result(b: usize) -> Pin
-        ensures { result ≡ slice_index_or parity_results b (Low 0) }
-    {
-        pin_at(&RESULTS, b)
+    fn result(b: usize) -> Pin {
+        RESULTS.get(b).copied().unwrap_or(Low(0))
     }
 }

@@ -1,54 +1,23 @@
-ghost use Rattle.std.specs.Prelude.{◌≡◌, slice_index, slice_index_or};
-ghost use Rattle.kinds.specs.declared.template.Pin.TheVariants.{Low};
-ghost use Rattle.kinds.specs.Template.{blank};
 ghost use Rattle.kinds.specs.Verdict.{verdict_unit, verdict_product, verdict_bits, verdict_gates, verdict_results};
+ghost use Rattle.kinds.specs.Laws.{verdict_associative, verdict_left, verdict_template};
 ghost use Rattle.std.proofs.Common.{rules};
 
 use crate::elements::Verdict;
 use crate::kind::Kind;
-use crate::template::{Pin, TemplateGate, gate_at, pin_at};
+use crate::template::Pin::{self, High, Inner, Low};
+use crate::template::TemplateGate::{self, One, Two};
 use netlist::gate::{AND, NOT, OR};
 
 const GATES: [TemplateGate; 6] = [
-    TemplateGate {
-        arity: 1,
-        a: Pin::High(1),
-        b: Pin::Low(0),
-        table: NOT,
-    },
-    TemplateGate {
-        arity: 2,
-        a: Pin::Inner(0),
-        b: Pin::Low(0),
-        table: AND,
-    },
-    TemplateGate {
-        arity: 2,
-        a: Pin::High(0),
-        b: Pin::Inner(1),
-        table: OR,
-    },
-    TemplateGate {
-        arity: 1,
-        a: Pin::High(0),
-        b: Pin::Low(0),
-        table: NOT,
-    },
-    TemplateGate {
-        arity: 2,
-        a: Pin::Inner(3),
-        b: Pin::Low(1),
-        table: AND,
-    },
-    TemplateGate {
-        arity: 2,
-        a: Pin::High(1),
-        b: Pin::Inner(4),
-        table: OR,
-    },
+    One(NOT, High(1)),
+    Two(AND, Inner(0), Low(0)),
+    Two(OR, High(0), Inner(1)),
+    One(NOT, High(0)),
+    Two(AND, Inner(3), Low(1)),
+    Two(OR, High(1), Inner(4)),
 ];
 
-const RESULTS: [Pin; 2] = [Pin::Inner(2), Pin::Inner(5)];
+const RESULTS: [Pin; 2] = [Inner(2), Inner(5)];
 
 // Verdicts: high decides, unless it is equal.
 pub struct Verdicts;
@@ -57,6 +26,8 @@ impl Kind for Verdicts {
     type Element = Verdict;
 
     const NETS: usize = 2;
+
+    ghost NETS = { 2 };
 
     ghost neutral = { verdict_unit };
 
@@ -68,67 +39,51 @@ impl Kind for Verdicts {
 
     ghost results = { verdict_results };
 
-    ghost associative = { Prim.search rules };
+    ghost counted = { Prim.search rules };
 
-    ghost left = { Prim.search rules };
+    ghost narrow = { Prim.search rules };
+
+    ghost associative = { verdict_associative };
+
+    ghost left = { verdict_left };
 
     ghost right = { Prim.search rules };
 
     ghost wide = { Prim.search rules };
 
-    ghost template = { Prim.search rules };
+    ghost template = { verdict_template };
 
     ghost well_formed = { Prim.search rules };
 
     ghost reaching = { Prim.search rules };
 
-    fn unit() -> Verdict
-        ensures { result ≡ verdict_unit }
-    {
+    fn unit() -> Verdict {
         Verdict::Equal
     }
 
-    fn product(low: Verdict, high: Verdict) -> Verdict
-        ensures { result ≡ verdict_product low high }
-    {
+    fn product(low: Verdict, high: Verdict) -> Verdict {
         match high {
             Verdict::Equal => low,
-            Verdict::Less => Verdict::Less,
-            Verdict::Greater => Verdict::Greater,
+            Verdict::Less | Verdict::Greater => high,
         }
     }
 
-    fn bit(x: Verdict, b: usize) -> u8
-        ensures { result ≡ slice_index (verdict_bits x) b }
-    {
+    fn bit(x: Verdict, b: usize) -> u8 {
         match (x, b) {
-            (Verdict::Less, 0) => 1,
-            (Verdict::Greater, 1) => 1,
+            (Verdict::Less, 0) | (Verdict::Greater, 1) => 1,
             _ => 0,
         }
     }
 
-    fn width() -> usize
-        ensures { result ≡ 2 }
-    {
-        Self::NETS
-    }
-
-    fn size() -> usize
-        ensures { result ≡ 6 }
-    {
+    fn size() -> usize {
         GATES.len()
     }
 
-    fn gate(k: usize) -> TemplateGate
-        ensures { result ≡ slice_index_or verdict_gates k blank }
-    {
-        gate_at(&GATES, k)
+    fn gate(k: usize) -> TemplateGate {
+        GATES.get(k).copied().unwrap_or(TemplateGate::Zero)
     }
 
-    fn result(b: usize) -> Pin
-        ensures { result ≡ slice_index_or verdict_results b (Low 0) }
-    {
-        pin_at(&RESULTS, b)
+    fn result(b: usize) -> Pin {
+        RESULTS.get(b).copied().unwrap_or(Low(0))
     }
 }

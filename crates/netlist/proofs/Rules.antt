@@ -1,8 +1,8 @@
 -- What a gate's rule gives, and how far the gates of a list keep it.
-use Rattle.std.proofs.Common.{◌≡◌, ℕ, zero, suc, ◌+◌, ◌*◌, ◌/◌, ◌%◌, ◌^◌, ◌<◌, ◌≤◌, Bool, true, false, cond, List, [], ◌∷◌, ◌++◌, length, get_or, sym, refl, ap, ◌∙◌, add-zero, add_assoc, arith, pow_mono}
+use Rattle.std.proofs.Common.{◌≡◌, ℕ, zero, suc, ◌+◌, ◌*◌, ◌/◌, ◌%◌, ◌^◌, ◌<◌, ◌≤◌, Bool, true, false, cond, List, [], ◌∷◌, ◌++◌, length, get_or, sym, refl, ap, ◌∙◌, add-zero, add_assoc, arith, pow_mono, drop}
 use native.Mathlib.Nat.{div-eq_of_lt}
+use Rattle.std.proofs.lemmas.List.{at_drop_more}
 use Rattle.std.proofs.lemmas.Bool.Decides.{nat_tests}
-use Rattle.std.specs.List.{prefix_len, enumerate_from}
 use Rattle.netlist.specs.declared.gate.Gate.{Gate}
 use Rattle.netlist.specs.Gates.{row_value, good, good_from}
 
@@ -29,14 +29,15 @@ value_same (suc zero) t a b c d h e f = ap (λ n. (t / 2 ^ n) % 2) (e (omega ari
 value_same (suc (suc zero)) t a b c d h e f = ap (λ n. (t / 2 ^ (2 * n + b)) % 2) (e (omega arith)) ∙ ap (λ n. (t / 2 ^ (2 * c + n)) % 2) (f (omega arith))
 value_same (suc (suc (suc r))) t a b c d h e f = absurd (omega arith)
 
--- the good gates at the front, each with its index
-good_enumerated : (m i : ℕ) (gs : List Gate) → prefix_len (λ p. good (m + p.0) p.1) (enumerate_from i gs) ≡ good_from (m + i) gs
-good_enumerated m i [] = refl
-good_enumerated m i (g ∷ gs) =
-    ap (λ n. cond (good (m + i) g) (1 + n) 0) (good_enumerated m (i + 1) gs ∙ ap (λ n. good_from n gs) (sym (add_assoc m i 1)))
+pub good_yes : (s : ℕ) (gs : List Gate) (k : ℕ) (d : Gate) → k < length gs → good (s + k) (get_or gs k d) ≡ true → good_from (s + k) (drop k gs) ≡ 1 + good_from (s + (k + 1)) (drop (k + 1) gs)
+good_yes s gs k d h e =
+    at_drop_more (good_from (s + k)) gs k d h
+    ∙ ap (λ b. cond b (1 + good_from ((s + k) + 1) (drop (k + 1) gs)) 0) e
+    ∙ ap (λ n. 1 + good_from n (drop (k + 1) gs)) (add_assoc s k 1)
 
-pub good_first : (m : ℕ) (gs : List Gate) → prefix_len (λ p. good (m + p.0) p.1) (enumerate_from 0 gs) ≡ good_from m gs
-good_first m gs = good_enumerated m 0 gs ∙ ap (λ n. good_from n gs) (add-zero m)
+pub good_no : (s : ℕ) (gs : List Gate) (k : ℕ) (d : Gate) → k < length gs → good (s + k) (get_or gs k d) ≡ false → good_from (s + k) (drop k gs) ≡ 0
+good_no s gs k d h e =
+    at_drop_more (good_from (s + k)) gs k d h ∙ ap (λ b. cond b (1 + good_from ((s + k) + 1) (drop (k + 1) gs)) 0) e
 
 pub good_le : (s : ℕ) (gs : List Gate) → good_from s gs ≤ length gs
 good_le s [] = omega arith

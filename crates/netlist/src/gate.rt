@@ -1,10 +1,11 @@
 ghost use Rattle.std.specs.Prelude.{◌≡◌, ◌+◌, ◌<◌, nat_lt};
-ghost use Rattle.std.specs.List.{prefix_len, enumerate_from};
 ghost use Rattle.netlist.specs.Gates.{constant_gate, one_gate, two_gate, good, good_from};
 
 // A gate of a netlist with m inputs. Signals 0 to m - 1 are the inputs, gate k is signal m + k.
 // The arity, 0 to 2, says how many of the operands a and b it reads; both are signal numbers.
 // Bit r of the table is the gate's value at row r: row 0, row a, or row 2a + b by arity.
+// A record of numbers and no enum: a table may hold any record, and one that is not good is refused.
+// Operands are numbers, and no references: the table is lent, and signals are known by their numbers.
 #[derive(Clone, Copy, Debug, PartialEq, Eq, Hash)]
 pub struct Gate {
     pub arity: u8,
@@ -84,20 +85,15 @@ fn is_below(signal: usize, m: usize, k: usize) -> bool
     signal < m || signal - m < k
 }
 
-// The gates at the front that are good, each as the gate of its index.
-fn good_front(gates: &[Gate], m: usize) -> usize
-    ensures { result ≡ prefix_len (λ p. good (m + p.0) p.1) (enumerate_from 0 gates.now) }
-{
-    gates
-        .iter()
-        .enumerate()
-        .take_while(|(k, gate)| gate.is_good(m, *k))
-        .count()
-}
-
 // How many gates of a netlist with m inputs are good, up to the first that is not.
 pub fn good_gates(gates: &[Gate], m: usize) -> usize
     ensures { result ≡ good_from m gates.now }
 {
-    good_front(gates, m)
+    // A loop and no chain: with `take_while` and `count`, simulate takes a tenth longer.
+    for (k, gate) in gates.iter().enumerate() {
+        if !gate.is_good(m, k) {
+            return k;
+        }
+    }
+    gates.len()
 }
