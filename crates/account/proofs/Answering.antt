@@ -52,6 +52,6 @@ gap_exactly a b l h r e runs p q =
 pub is_family_lem : (f : ℕ) → 1 ≤ f → f ≤ 4 → is_family f ≡ true
 is_family_lem f h k = let l : 0 < f = omega arith in let m : f < 5 = omega arith in rw (lt-ltb 0 f l, lt-ltb f 5 m)
 
-pub lays : (a b : Account) (f k : ℕ) → 1 ≤ f → f ≤ 4 → length a.joins ≡ 0 → k ≡ length (family f a.columns) →
+pub lays : (a b : Account) (f k : ℕ) → is_family f ≡ true → length a.joins ≡ 0 → k ≡ length (family f a.columns) →
     b ≡ record { columns = a.columns; joins = family f a.columns } → (number k, b) ≡ laid a f
-lays a b f k h i z e u = rw (is_family_lem f h i, eq-eqb (length a.joins) 0 z, e, u)
+lays a b f k h z e u = rw (h, eq-eqb (length a.joins) 0 z, e, u)

@@ -1,6 +1,6 @@
 use Rattle.std.proofs.Common.{◌≡◌, ℕ, zero, suc, ◌+◌, ◌-◌, ◌*◌, ◌<◌, ◌≤◌, List, [], ◌∷◌, ◌++◌, map, length, get_or, drop, Some, None, fold, Option, sym, refl, ap, ◌∙◌, subst, arith}
 use Rattle.std.specs.List.{range_with_len}
-use Rattle.std.proofs.lemmas.List.{append_assoc, append-nil, at_drop_more, at_drop_all, length-append, length_push, get_or_append_left, get_or-append_right}
+use Rattle.std.proofs.lemmas.List.{append_assoc, append-nil, at_drop_more, at_drop_all, length-append, length_push, get_or_append_left, get_or-append_right, set-get_or}
 use Rattle.std.proofs.lemmas.List.FromFn.{length-range_with_len, get_or-range_with_len, length-map-range_with_len, get_or-map-range_with_len}
 use Rattle.account.specs.Words.{Pair}
 use Rattle.account.specs.Families.{Level, idle, Laying, join_column, lay_column, lay_level, levels, sklansky, kogge_stone, brent_kung_up, brent_kung_down, han_carlson, han_carlson_last}
@@ -30,7 +30,7 @@ unfolding Sound
 sound_grown n s t g k ps p qs e =
     k ps p (qs ++ g.0) (sym (append_assoc ps (p ∷ qs) g.0) ∙ ap (λ (js : List Pair). js ++ g.0) e ∙ sym g.1)
 
--- one column on, and one level on
+-- one column on
 pub column_more : (n : ℕ) (l : Level) (before : List ℕ) (s : Laying) (i : ℕ) → i < n →
     fold (lay_column n l before) s (drop i (range_with_len 0 n)) ≡ fold (lay_column n l before) (lay_column n l before s i) (drop (i + 1) (range_with_len 0 n))
 column_more n l before s i h =
@@ -41,33 +41,26 @@ column_more n l before s i h =
 pub columns_all : (n : ℕ) (l : Level) (before : List ℕ) (s : Laying) (i : ℕ) → n ≤ i → fold (lay_column n l before) s (drop i (range_with_len 0 n)) ≡ s
 columns_all n l before s i h = at_drop_all (fold (lay_column n l before) s) (range_with_len 0 n) i (omega (arith, length-range_with_len 0 n))
 
-pub column_sound : (n : ℕ) (l : Level) (before : List ℕ) (s : Laying) (i : ℕ) → i < n →
-    Sound n (fold (lay_column n l before) s (drop i (range_with_len 0 n))).joins → Sound n (lay_column n l before s i).joins
-column_sound n l before s i h k =
-    let S : Laying → Type 0 = λ t. Sound n t.joins in
-    sound_grown n (lay_column n l before s i) (fold (lay_column n l before) (lay_column n l before s i) (drop (i + 1) (range_with_len 0 n)))
-    (grows_folded (lay_column n l before) (λ t j. grows_column n before t j (l j)) (lay_column n l before s i) (drop (i + 1) (range_with_len 0 n)))
-    (subst S (column_more n l before s i h) k)
+pub column_stays : (n : ℕ) (l : Level) (before : List ℕ) (s : Laying) (i : ℕ) → l i ≡ None → lay_column n l before s i ≡ s
+column_stays n l before s i e = rw e
 
-pub level_more : (n : ℕ) (ls : List Level) (s : Laying) (t : ℕ) → t < length ls →
-    fold (lay_level n) s (drop t ls) ≡ fold (lay_level n) (lay_level n s (get_or ls t idle)) (drop (t + 1) ls)
-level_more n ls s t h = at_drop_more (fold (lay_level n) s) ls t idle h
+-- the steps of a level, column by column
+pub ruleset columns = (column_more, columns_all, column_stays, set-get_or)
 
-pub levels_all : (n : ℕ) (ls : List Level) (s : Laying) (t : ℕ) → length ls ≤ t → fold (lay_level n) s (drop t ls) ≡ s
-levels_all n ls s t h = at_drop_all (fold (lay_level n) s) ls t h
-
-pub level_sound : (n : ℕ) (ls : List Level) (s : Laying) (t : ℕ) → t < length ls →
-    Sound n (fold (lay_level n) s (drop t ls)).joins → Sound n (lay_level n s (get_or ls t idle)).joins
-level_sound n ls s t h k =
-    let S : Laying → Type 0 = λ u. Sound n u.joins in
-    sound_grown n (lay_level n s (get_or ls t idle)) (fold (lay_level n) (lay_level n s (get_or ls t idle)) (drop (t + 1) ls))
-    (grows_folded (lay_level n) (grows_level n) (lay_level n s (get_or ls t idle)) (drop (t + 1) ls))
-    (subst S (level_more n ls s t h) k)
-
--- the last join of sound joins is accepted
-pub sound_last : (n : ℕ) (ps : List Pair) (p : Pair) → Sound n (ps ++ p ∷ []) → Accepts n ps p
+-- a column that joins at a sound level does so with success
+pub column_accepts : (n : ℕ) (l : Level) (before : List ℕ) (s : Laying) (i j : ℕ) → i < n → l i ≡ Some j →
+    Sound n (fold (lay_column n l before) s (drop i (range_with_len 0 n))).joins → Accepts n s.joins (get_or before j 0, get_or before i 0)
 unfolding Sound
-sound_last n ps p k = k ps p [] refl
+column_accepts n l before s i j h e k =
+    let S : Laying → Type 0 = λ t. Sound n t.joins in
+    let one = sound_grown n (lay_column n l before s i) (fold (lay_column n l before) (lay_column n l before s i) (drop (i + 1) (range_with_len 0 n)))
+    (grows_folded (lay_column n l before) (λ t v. grows_column n before t v (l v)) (lay_column n l before s i) (drop (i + 1) (range_with_len 0 n)))
+    (subst S (column_more n l before s i h) k) in
+    one s.joins (get_or before j 0, get_or before i 0) [] (rw e)
+
+-- the first level
+pub level_sound : (n : ℕ) (l : Level) (ls : List Level) (s : Laying) → Sound n (fold (lay_level n) s (l ∷ ls)).joins → Sound n (lay_level n s l).joins
+level_sound n l ls s k = sound_grown n (lay_level n s l) (fold (lay_level n) (lay_level n s l) ls) (grows_folded (lay_level n) (grows_level n) (lay_level n s l) ls) k
 
 -- the level at a turn
 pub length_levels_1 : (k : ℕ) → length (levels 1 k) ≡ k
@@ -95,7 +88,7 @@ level_3_up k t h =
     get_or_append_left (map brent_kung_up (range_with_len 1 k)) _ idle t (omega (arith, length-map-range_with_len brent_kung_up 1 k))
     ∙ get_or-map-range_with_len brent_kung_up 1 k t (t + 1) idle h (omega arith)
 
-pub level_3_down : (k t : ℕ) → k ≤ t → t < k + (k - 1) → get_or (levels 3 k) t idle ≡ brent_kung_down (2 * k - 1 - t)
+pub level_3_down : (k t : ℕ) → k ≤ t → t + 1 < 2 * k → get_or (levels 3 k) t idle ≡ brent_kung_down (2 * k - 2 - t + 1)
 level_3_down k t h u =
     get_or-append_right (map brent_kung_up (range_with_len 1 k)) (map (λ t. brent_kung_down (k - 1 - t)) (range_with_len 0 (k - 1))) k t idle (length-map-range_with_len brent_kung_up 1 k) h
     ∙ get_or-map-range_with_len (λ t. brent_kung_down (k - 1 - t)) 0 (k - 1) (t - k) (t - k) idle (omega arith) (omega arith)
@@ -113,11 +106,5 @@ level_4_last k (suc t) z h u =
     get_or-append_right (map han_carlson (range_with_len 1 (k - 1))) (han_carlson_last ∷ []) (k - 1) t idle (length-map-range_with_len han_carlson 1 (k - 1)) (omega arith)
     ∙ (let e : t - (k - 1) ≡ 0 = omega arith in ap (λ (m : ℕ). get_or (han_carlson_last ∷ []) m idle) e)
 
--- a column that joins does so with success
-pub column_accepts : (n : ℕ) (before : List ℕ) (s : Laying) (i j : ℕ) (o : Option ℕ) → o ≡ Some j → Sound n (join_column n before s i o).joins →
-    Accepts n s.joins (get_or before j 0, get_or before i 0)
-column_accepts n before s i j (Some k) e h =
-    let same : k ≡ j = cc in
-    let A : ℕ → Type 0 = λ m. Accepts n s.joins (get_or before m 0, get_or before i 0) in
-    subst A same (sound_last n s.joins (get_or before k 0, get_or before i 0) h)
-column_accepts n before s i j None e h = let z : ◌≡◌ {A = ℕ} 0 1 = cc in absurd (omega arith)
+-- each family's levels, counted and by their turn
+pub ruleset turns = (length_levels_1, length_levels_2, length_levels_3, length_levels_4, level_1, level_2, level_3_up, level_3_down, level_4_middle, level_4_last)

@@ -1,15 +1,17 @@
 -- One join more: the values so far, and the joins left, give all values.
-use Rattle.std.proofs.Common.{◌≡◌, ℕ, ◌+◌, ◌<◌, ◌≤◌, List, [], ◌∷◌, ◌++◌, length, get_or, take, drop, set, Some, sym, ap, ◌∙◌, add-zero, add_assoc, arith}
-use Rattle.std.proofs.lemmas.List.{take_at, take_all, get_or-take, take_more_set, at_drop_more, at_drop_all}
-use Rattle.std.proofs.lemmas.Bool.{eq-eqb, lt-ltb}
-use Rattle.account.specs.Words.{Pair, pair_at}
+use Rattle.std.proofs.Common.{◌≡◌, ℕ, ◌+◌, ◌<◌, ◌≤◌, List, [], ◌∷◌, ◌++◌, map, length, get_or, take, drop, set, sym, ap, ◌∙◌, add-zero, add_assoc, arith}
+use Rattle.std.proofs.lemmas.List.{take_at, take_all, get_or-map, get_or-take, take_more_set, at_drop_more, at_drop_all}
+use Rattle.std.proofs.lemmas.Bool.{eq-eqb}
+use Rattle.account.specs.Words.{Pair}
 use Rattle.account.specs.Account.{Account, nodes}
 use Rattle.netlist.specs.Refusals.{done}
+use Rattle.sheet.specs.Spans.{at, blank, pair_of}
+use Rattle.sheet.specs.declared.node.Node.{Node}
 use Rattle.scan.specs.Values.{valued, ran}
 
--- the operands of a join that stands
-pub pair_is : (ps : List Pair) (r : ℕ) (p : Pair) → r < length ps → Some p ≡ pair_at ps r → p ≡ get_or ps r (0, 0)
-pair_is ps r p h e = let f : Some p ≡ Some (get_or ps r (0, 0)) = rw (lt-ltb r (length ps) h) at e in cc
+-- the operands of a join, by its node
+pub pair_is : (ds : List Node) (ps : List Pair) (r : ℕ) → map pair_of ds ≡ ps → r < length ds → pair_of (at ds r) ≡ get_or ps r (0, 0)
+pair_is ds ps r e h = sym (get_or-map pair_of ds r blank (0, 0) h) ∙ ap (λ (qs : List Pair). get_or qs r (0, 0)) e
 
 -- the values vs of the first n + r nodes, with the joins from r on, give the values of all
 abbrev pub Filled : {E : Type 0} → (E → E → E) → E → List E → List Pair → List E → ℕ → Type 0

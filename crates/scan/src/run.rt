@@ -14,13 +14,9 @@ fn fill<K: Kind>(closed: &ClosedSheet, elements: &[K::Element], values: &mut [K:
     ensures { values.new ≡ valued K.Kind.times K.Kind.neutral elements.now (account_of closed.now).joins }
 {
     let n = elements.len();
-    values[0..n].copy_from_slice(elements);
-    for r in 0..closed.joins() {
-        let Some((low, high)) = closed.operands(r) else {
-            unreachable()
-        };
-        let product = K::product(values[low], values[high]);
-        values[n + r] = product;
+    values[..n].copy_from_slice(elements);
+    for (r, join) in closed.join_nodes().iter().enumerate() {
+        values[n + r] = K::product(values[join.low], values[join.high]);
     }
 }
 

@@ -1,6 +1,5 @@
-use Rattle.std.proofs.Common.{◌≡◌, ℕ, suc, ◌+◌, ◌-◌, ◌<◌, ◌≤◌, eqb, List, [], ◌∷◌, ◌++◌, map, length, get_or, take, drop, set, sym, ap, ◌∙◌, ⊎_elim, arith}
+use Rattle.std.proofs.Common.{◌≡◌, ℕ, suc, ◌+◌, ◌-◌, ◌<◌, ◌≤◌, eqb, List, [], ◌∷◌, ◌++◌, map, length, get_or, take, drop, set, sym, ap, ◌∙◌, subst, below_more, arith}
 use Rattle.std.proofs.lemmas.List.{drop_all, length-map, length-drop, length-take-le, map_push, take_more_set, take_more, drop-append-le, get_or-map, get_or-drop, get_or-take, get_or-set_same, get_or-set_other}
-use Rattle.std.proofs.lemmas.Bool.{cases_eq}
 use Rattle.account.specs.Words.{Pair, word, is_run, front, back}
 use Rattle.sheet.specs.Spans.{blank, column, at, pair_of, pairs_of, interval, Upward, Spelled, Founded}
 use Rattle.sheet.specs.declared.node.Node.{Node}
@@ -64,39 +63,32 @@ spans_append x y z hx hy g f l =
     ∙ let e : (x.last + 1 - x.first) + (y.last + 1 - y.first) ≡ z.last + 1 - z.first = omega arith in
     let f' : x.first ≡ z.first = sym f in rw (e, f')
 
--- one more node, at the end: what is known of the others stays
+-- one more node, at the end: what holds of each node before it, and of it, holds of each
+push_each : (P : ℕ → Node → Type 0) (xs : List Node) (count : ℕ) (d : Node) → count < length xs →
+    ((v : ℕ) → v < count → P v (at xs v)) → P count d → (v : ℕ) → v < count + 1 → P v (at (set xs count d) v)
+push_each P xs count d lt old new =
+    below_more (λ v. P v (at (set xs count d) v)) count
+    (λ v h. let ne : v ≡ count → ⊥ = omega arith in subst (P v) (sym (get_or-set_other xs count v d blank ne)) (old v h))
+    (subst (P count) (sym (get_or-set_same xs count d blank lt)) new)
+
 pub upward_push : (n : ℕ) (xs : List Node) (count : ℕ) (d : Node) → count < length xs → Upward n xs count →
     d.first ≤ d.last → d.last < n → Upward n (set xs count d) (count + 1)
-upward_push n xs count d lt up a b v h =
-    ⊎_elim
-    (λ (e : v ≡ count). let same : at (set xs count d) v ≡ d = rw e (get_or-set_same xs count d blank lt) in rw same (a, b))
-    (λ (ne : v ≡ count → ⊥). let other : at (set xs count d) v ≡ at xs v = get_or-set_other xs count v d blank ne in rw other (up v (omega arith)))
-    (cases_eq v count)
+upward_push n xs count d lt up a b = push_each (λ _ e. e.first ≤ e.last × e.last < n) xs count d lt up (a, b)
 
 pub spelled_push : (n : ℕ) (xs : List Node) (count : ℕ) (d : Node) → n ≤ count → count < length xs → Spelled n xs count →
     (d.low < count) → (d.high < count) → interval (at xs d.low) ++ interval (at xs d.high) ≡ interval d →
     Spelled n (set xs count d) (count + 1)
-spelled_push n xs count d le lt sp bl bh j v h =
+spelled_push n xs count d le lt sp bl bh j =
     let all : n + length (pairs_of n xs count) ≡ count = nodes_count n xs count le (omega arith) in
-    ap (λ (ps : List Pair). word n ps v) (pairs_push n xs count d le lt)
-    ∙ ⊎_elim
-    (λ (e : v ≡ count).
-    let same : at (set xs count d) v ≡ d = rw e (get_or-set_same xs count d blank lt) in
-    rw same
-    (word_new n (pairs_of n xs count) (d.low, d.high) v (omega arith)
-    ∙ rw (sp d.low bl, sp d.high bh) j))
-    (λ (ne : v ≡ count → ⊥).
-    let other : at (set xs count d) v ≡ at xs v = get_or-set_other xs count v d blank ne in
-    rw other (word_before n (pairs_of n xs count) (d.low, d.high) v (omega arith) ∙ sp v (omega arith)))
-    (cases_eq v count)
+    let push = pairs_push n xs count d le lt in
+    push_each (λ v e. word n (pairs_of n (set xs count d) (count + 1)) v ≡ interval e) xs count d lt
+    (λ v h. rw push (word_before n (pairs_of n xs count) (d.low, d.high) v (omega arith) ∙ sp v h))
+    (rw push (word_new n (pairs_of n xs count) (d.low, d.high) count (omega arith) ∙ rw (sp d.low bl, sp d.high bh) j))
 
 pub founded_push : (n : ℕ) (xs : List Node) (count : ℕ) (d : Node) → count < length xs → Founded n xs count →
     (d.low < count) → (d.high < count) → Founded n (set xs count d) (count + 1)
 founded_push n xs count d lt fo l h v a b =
-    ⊎_elim
-    (λ (e : v ≡ count). let same : at (set xs count d) v ≡ d = rw e (get_or-set_same xs count d blank lt) in rw same (omega arith, omega arith))
-    (λ (ne : v ≡ count → ⊥). let other : at (set xs count d) v ≡ at xs v = get_or-set_other xs count v d blank ne in rw other (fo v a (omega arith)))
-    (cases_eq v count)
+    push_each (λ v e. n ≤ v → (e.low < v) × (e.high < v)) xs count d lt (λ v b a. fo v a b) (λ _. (l, h)) v b a
 
 -- one node less
 pub spelled_pop : (n : ℕ) (xs : List Node) (count : ℕ) → n ≤ count → count < length xs → Spelled n xs (count + 1) → Spelled n xs count

@@ -1,3 +1,3 @@
 pub mod Keeping
 pub mod Standing
-pub mod Numbers
+pub mod Levels

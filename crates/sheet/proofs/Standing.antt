@@ -1,19 +1,24 @@
-use Rattle.std.proofs.Common.{◌≡◌, ℕ, suc, ◌+◌, ◌-◌, ◌<◌, ◌≤◌, max, true, false, eqb, List, [], ◌∷◌, ◌++◌, length, get_or, take, drop, is_some, Some, None, sym, ap, ◌∙◌, subst, ⊎_elim, arith}
-use Rattle.std.specs.List.{range_with_len}
-use Rattle.std.proofs.lemmas.List.{take_at, at_drop_more, at_drop_all}
-use Rattle.std.proofs.lemmas.Bool.{cases_eq, eq-eqb, ne_eqb}
+use Rattle.std.proofs.Common.{◌≡◌, ℕ, suc, ◌+◌, ◌-◌, ◌<◌, ◌≤◌, max, true, false, cond, eqb, List, [], ◌∷◌, ◌++◌, map, length, get_or, take, unwrap_or, fold, Result, Ok, Err, IsOk, sym, refl, ap, ◌∙◌, subst, ⊎_elim, arith, zero, is_some, Some, None, Option, MatchOption, add-zero}
+use Rattle.std.specs.List.{range_with_len, count_by, position, position_from, reduce}
+use Rattle.std.proofs.lemmas.List.{take_at, length-map, length-drop, length-take-le, get_or-map, get_or-drop, get_or-take}
+use Rattle.std.proofs.lemmas.List.FromFn.{fill_by_all}
+use Rattle.std.proofs.lemmas.List.Recursion.{is_sum_by}
+use Rattle.std.proofs.lemmas.Iterator.Adapters.{position_from-zero}
+use Rattle.std.proofs.lemmas.Bool.{cases_Bool, cases_eq, eq-eqb, eqb-true, ne_eqb, and_parts, and_from}
+use Rattle.std.specs.Prelude.{is_none, find}
 use Rattle.account.specs.Words.{Pair, Ordered, words, word, is_run}
-use Rattle.account.specs.Account.{Account, Answer, number, refused, nodes, word_of, meets, joined, GapIsNoRun, undone, same, place_of, output_of, closing}
-use Rattle.sheet.specs.Spans.{at, pair_of, pairs_of, interval}
+use Rattle.account.specs.Account.{Account, Answer, number, refused, nodes, word_of, meets, joined, GapIsNoRun, undone, place_of, output_of, closing, closed, Covered}
+use Rattle.sheet.specs.Spans.{at, blank, pair_of, pairs_of, joins_of, standing_of, spells_to, interval}
 use Rattle.sheet.specs.View.{account}
-use Rattle.answers.specs.Refusals.{refusal}
+use Rattle.answers.specs.Refusals.{answer}
 use Rattle.answers.specs.declared.refusal.Refusal.{Refusal}
 use Rattle.answers.specs.declared.refusal.Refusal.TheVariants.{Width, NoNode, Gap, Full, Bare, NotBare, NoFamily, Uncovered}
 use Rattle.sheet.specs.declared.node.Node.{Node}
 use Rattle.sheet.specs.declared.sheet.Sheet.{Sheet}
 use Rattle.account.proofs.Answering.{gap_exactly}
 use Rattle.account.proofs.Spelling.{run_counting, length_words}
-use Rattle.account.specs.Measure.{depths, deeper}
+use Rattle.account.specs.Families.{greatest}
+use Rattle.account.specs.Measure.{depths, deeper, takes, takers, fan_out}
 use Rattle.account.proofs.Tying.{span_out, span_other}
 use Rattle.account.proofs.Measuring.{depth_join}
 use Rattle.sheet.proofs.Keeping.{size, nodes_count, run_spans, front_span, back_span, length_pairs, pairs_pop, pairs_at}
@@ -63,42 +68,71 @@ pub popped : (a b : Account) (k : ℕ) → 0 < length a.joins → k ≡ length a
     b ≡ record { columns = a.columns; joins = take (length a.joins - 1) a.joins } → (number k, b) ≡ undone a
 popped a b k h e f = rw (ne_eqb (length a.joins) 0 (omega arith), e, f)
 
-pub spans_out : (d : Node) (c : ℕ) → d.first ≡ 0 → d.last ≡ c → same (interval d) (range_with_len 0 (c + 1)) ≡ true
-spans_out d c f l = span_out d.first d.last c f l
-
-pub spans_other : (d : Node) (c : ℕ) → d.first ≤ d.last → (d.first ≡ 0 → d.last ≡ c → ⊥) → same (interval d) (range_with_len 0 (c + 1)) ≡ false
-spans_other d c h never = span_other d.first d.last c h never
-
--- the search for an output, node by node
-pub place_skip : (w : List ℕ) (ws : List (List ℕ)) (v : ℕ) → v < length ws → same (get_or ws v []) w ≡ false →
-    place_of w (drop v ws) v ≡ place_of w (drop (v + 1) ws) (v + 1)
-place_skip w ws v h e = at_drop_more (λ (xs : List (List ℕ)). place_of w xs v) ws v [] h ∙ rw e
-
-pub place_found : (w : List ℕ) (ws : List (List ℕ)) (v : ℕ) → v < length ws → same (get_or ws v []) w ≡ true →
-    place_of w (drop v ws) v ≡ Some v
-place_found w ws v h e = at_drop_more (λ (xs : List (List ℕ)). place_of w xs v) ws v [] h ∙ rw e
-
-pub place_end : (w : List ℕ) (ws : List (List ℕ)) (v : ℕ) → length ws ≤ v → place_of w (drop v ws) v ≡ None
-place_end w ws v h = at_drop_all (λ (xs : List (List ℕ)). place_of w xs v) ws v h
-
-abbrev pub words_of : Sheet → List (List ℕ)
+abbrev words_of : Sheet → List (List ℕ)
 words_of s = words (account s).columns (account s).joins
 
-pub words_count : (s : Sheet) → length (words_of s) ≡ s.table.count
-words_count s = length_words (account s).columns (account s).joins ∙ count_is s
-
-pub word_is : (s : Sheet) (v : ℕ) → v < s.table.count → get_or (words_of s) v [] ≡ interval (at s.table.nodes v)
+word_is : (s : Sheet) (v : ℕ) → v < s.table.count → get_or (words_of s) v [] ≡ interval (at s.table.nodes v)
 unfolding word
 word_is s v h = s.spelled v h
 
--- close, column by column
-pub close_more : (a : Account) (c n : ℕ) → c < n → is_some (output_of a c) ≡ true → closing a c (n - c) ≡ closing a (c + 1) (n - (c + 1))
-close_more a c n h e =
-    let k : n - c ≡ suc (n - (c + 1)) = omega arith in rw (k, e)
+-- the words of the account are the spans of the standing nodes
+words_are : (s : Sheet) → words_of s ≡ map interval (standing_of s.table.nodes s.table.count)
+words_are s =
+    let f : ℕ → List ℕ = λ k. interval (at s.table.nodes k) in
+    let ds = standing_of s.table.nodes s.table.count in
+    let long : length ds ≡ s.table.count = length-take-le s.table.count s.table.nodes (omega (arith, s.table.sized)) in
+    fill_by_all f (words_of s) s.table.count [] (length_words (account s).columns (account s).joins ∙ count_is s) (λ k h. word_is s k h)
+    ∙ sym (fill_by_all f (map interval ds) s.table.count [] (length-map ds interval ∙ long)
+    (λ k h. get_or-map interval ds k blank [] (omega arith) ∙ ap interval (get_or-take s.table.count s.table.nodes k blank h)))
 
-pub close_stops : (a : Account) (c n : ℕ) → c < n → output_of a c ≡ None → closing a c (n - c) ≡ refused 8 (c ∷ [])
-close_stops a c n h e =
-    let k : n - c ≡ suc (n - (c + 1)) = omega arith in rw (k, e)
+place_spans : (c : ℕ) (ds : List Node) (v : ℕ) → ((k : ℕ) → k < length ds → (at ds k).first ≤ (at ds k).last) →
+    position_from (spells_to c) v ds ≡ place_of (range_with_len 0 (c + 1)) (map interval ds) v
+place_spans c [] v up = refl
+place_spans c (d ∷ ds) v up =
+    let rest = place_spans c ds (v + 1) (λ k h. up (suc k) (omega arith)) in
+    ⊎_elim
+    (λ (t : spells_to c d ≡ true).
+    let p = and_parts (eqb d.first 0) (eqb d.last c) t in
+    sym (rw (span_out d.first d.last c (eqb-true _ _ p.0) (eqb-true _ _ p.1), t)))
+    (λ (f : spells_to c d ≡ false).
+    let never : d.first ≡ 0 → d.last ≡ c → ⊥ =
+    λ a b. let y = and_from (eqb d.first 0) (eqb d.last c) (eq-eqb _ _ a) (eq-eqb _ _ b) in let z : ◌≡◌ {A = ℕ} 0 1 = cc in omega arith in
+    rw (span_other d.first d.last c (up 0 (omega arith)) never, f) rest)
+    (cases_Bool (spells_to c d))
+
+-- the first node that spells the columns 0 to c is the output
+pub output_is : (s : Sheet) (c : ℕ) → position (spells_to c) (standing_of s.table.nodes s.table.count) ≡ output_of (account s) c
+unfolding output_of
+output_is s c =
+    let ds = standing_of s.table.nodes s.table.count in
+    position_from-zero (spells_to c) ds
+    ∙ place_spans c ds 0
+    (λ k h.
+    let lt : k < s.table.count = omega (arith, length-take-le s.table.count s.table.nodes (omega (arith, s.table.sized))) in
+    rw (get_or-take s.table.count s.table.nodes k blank lt) (s.upward k lt).0)
+    ∙ ap (λ (ws : List (List ℕ)). place_of (range_with_len 0 (c + 1)) ws 0) (sym (words_are s))
+
+-- the joins that take a node
+pub takers_are : (v : ℕ) (ds : List Node) → takers v (map pair_of ds) ≡ count_by (λ d. takes v (pair_of d)) ds
+takers_are v ds = is_sum_by (λ ds. takers v (map pair_of ds)) (λ d. cond (takes v (pair_of d)) 1 0) refl (λ _ _. refl) ds
+
+-- the greatest of a list, as `max` picks it
+greatest_fold : (x : ℕ) (xs : List ℕ) → fold max x xs ≡ max x (greatest xs)
+greatest_fold x [] = omega arith
+greatest_fold x (y ∷ ys) = greatest_fold (max x y) ys ∙ omega arith
+
+pub greatest_reduced : (xs : List ℕ) → unwrap_or (reduce max xs) 0 ≡ greatest xs
+greatest_reduced [] = refl
+greatest_reduced (x ∷ xs) = greatest_fold x xs
+
+-- the nodes of the table decide the fan-out
+pub fan_out_is : (s : Sheet) → greatest (map (λ v. takers v (account s).joins) (range_with_len 0 s.table.count)) ≡ fan_out (account s)
+unfolding fan_out
+fan_out_is s = ap (λ (m : ℕ). greatest (map (λ v. takers v (account s).joins) (range_with_len 0 m))) (sym (count_is s))
+
+-- what a standing node spells
+pub span_is : (s : Sheet) (v : ℕ) (d : Node) → v < s.table.count → d ≡ at s.table.nodes v → (d.first ≤ d.last) × (word_of (account s) v ≡ interval d)
+span_is s v d h e = rw e ((s.upward v h).0, s.spelled v h)
 
 -- every node of a sheet spells a run
 pub all_runs : (s : Sheet) (v : ℕ) → v < nodes (account s) → is_run (word_of (account s) v) ≡ true
@@ -107,20 +141,34 @@ all_runs s v h =
     let d = at s.table.nodes v in
     rw (s.spelled v lt, size d (s.upward v lt).0) (run_counting d.first (d.last - d.first))
 
--- a refusal is no number
-pub not_number : (r : Refusal) (k : ℕ) → number k ≡ refusal r → ◌≡◌ {A = ℕ} 0 1
-not_number (Width n) k e = cc
-not_number (NoNode v s) k e = cc
-not_number (Gap x y) k e = cc
-not_number Full k e = cc
-not_number Bare k e = cc
-not_number (NotBare j) k e = cc
-not_number (NoFamily f) k e = cc
-not_number (Uncovered c) k e = cc
+-- what answers a number is no refusal
+pub is_number : (r : Result ℕ Refusal) (k : ℕ) → answer r ≡ number k → IsOk r
+is_number (Ok v) k e = refl
+is_number (Err (Width n)) k e = cc
+is_number (Err (NoNode v s)) k e = cc
+is_number (Err (Gap x y)) k e = cc
+is_number (Err Full) k e = cc
+is_number (Err Bare) k e = cc
+is_number (Err (NotBare j)) k e = cc
+is_number (Err (NoFamily f)) k e = cc
+is_number (Err (Uncovered c)) k e = cc
 
 -- a join's operands, in the account
 pub operands_are : (s : Sheet) (v : ℕ) → s.columns ≤ v → v < s.table.count → get_or (account s).joins (v - s.columns) (0, 0) ≡ pair_of (at s.table.nodes v)
 operands_are s v a b = pairs_at s.columns s.table.nodes s.table.count v a b (omega (arith, s.table.sized))
+
+-- the nodes of the joins
+pub joins_end : (s : Sheet) → s.columns + length (joins_of s.columns s.table.nodes s.table.count) ≡ s.table.count
+joins_end s =
+    omega (arith, length-drop s.columns (standing_of s.table.nodes s.table.count), length-take-le s.table.count s.table.nodes (omega (arith, s.table.sized)))
+
+-- join r is the node behind the columns and r joins
+pub join_at : (s : Sheet) (r : ℕ) → r < length (joins_of s.columns s.table.nodes s.table.count) →
+    (s.columns + r < s.table.count) × (at (joins_of s.columns s.table.nodes s.table.count) r ≡ at s.table.nodes (s.columns + r))
+join_at s r h =
+    let xs = standing_of s.table.nodes s.table.count in
+    let lt : s.columns + r < s.table.count = omega (arith, joins_end s) in
+    (lt, get_or-drop s.columns xs r blank ∙ get_or-take s.table.count s.table.nodes (s.columns + r) blank lt)
 
 -- each join takes nodes that stand before it
 pub ordered_is : (s : Sheet) → Ordered s.columns (account s).joins
@@ -143,3 +191,39 @@ depth_is s v x y a b p q =
     sym (depth_join s.columns (account s).joins v a (omega (arith, count_is s)) l h
     ∙ ap (deeper (depths s.columns (account s).joins)) o
     ∙ rw (← p, ← q))
+
+-- one column more that has an output
+covered_more : (a : Account) (c k : ℕ) → is_some (output_of a c) ≡ true → ((j : ℕ) → j < k → is_some (output_of a ((c + 1) + j)) ≡ true) →
+    (j : ℕ) → j < suc k → is_some (output_of a (c + j)) ≡ true
+covered_more a c k f g zero h = rw add-zero f
+covered_more a c k f g (suc j) h = let e : c + suc j ≡ (c + 1) + j = omega arith in ap (λ n. is_some (output_of a n)) e ∙ g j (omega arith)
+
+kept : (o : Option ℕ) (P Q : Type 0) (R : ℕ → Type 0) → (P → Q) → MatchOption o P R → MatchOption o Q R
+kept None P Q R f m = f m
+kept (Some x) P Q R f m = m
+
+-- the first of k columns from c that has no output is the one that closing refuses
+first_uncovered : (a : Account) (c k : ℕ) →
+    MatchOption (find (λ i. is_none (output_of a i)) (range_with_len c k)) ((j : ℕ) → j < k → is_some (output_of a (c + j)) ≡ true) (λ i. refused 8 (i ∷ []) ≡ closing a c k)
+first_uncovered a c zero = λ j h. absurd (omega arith)
+first_uncovered a c (suc k) =
+    ⊎_elim
+    (λ (f : is_some (output_of a c) ≡ true). rw f
+    (kept (find (λ i. is_none (output_of a i)) (range_with_len (c + 1) k))
+    ((j : ℕ) → j < k → is_some (output_of a ((c + 1) + j)) ≡ true) ((j : ℕ) → j < suc k → is_some (output_of a (c + j)) ≡ true)
+    (λ i. refused 8 (i ∷ []) ≡ closing a (c + 1) k) (covered_more a c k f) (first_uncovered a (c + 1) k)))
+    (λ (f : is_some (output_of a c) ≡ false). rw f refl)
+    (cases_Bool (is_some (output_of a c)))
+
+pub closes_or_not : (a : Account) → MatchOption (find (λ i. is_none (output_of a i)) (range_with_len 0 a.columns)) (Covered a) (λ i. refused 8 (i ∷ []) ≡ closed a)
+closes_or_not a =
+    kept (find (λ i. is_none (output_of a i)) (range_with_len 0 a.columns)) ((j : ℕ) → j < a.columns → is_some (output_of a (0 + j)) ≡ true) (Covered a)
+    (λ i. refused 8 (i ∷ []) ≡ closed a)
+    (λ g i h. let e : i ≡ 0 + i = omega arith in ap (λ n. is_some (output_of a n)) e ∙ g i h)
+    (first_uncovered a 0 a.columns)
+
+pub covered_where : (a : Account) (o : Option ℕ) → o ≡ find (λ i. is_none (output_of a i)) (range_with_len 0 a.columns) → o ≡ None → Covered a
+covered_where a o e n = subst (λ q. MatchOption q (Covered a) (λ i. refused 8 (i ∷ []) ≡ closed a)) (sym e ∙ n) (closes_or_not a)
+
+pub refused_where : (a : Account) (o : Option ℕ) (i : ℕ) → o ≡ find (λ i. is_none (output_of a i)) (range_with_len 0 a.columns) → o ≡ Some i → refused 8 (i ∷ []) ≡ closed a
+refused_where a o i e n = subst (λ q. MatchOption q (Covered a) (λ i. refused 8 (i ∷ []) ≡ closed a)) (sym e ∙ n) (closes_or_not a)

@@ -1,7 +1,8 @@
-ghost use Rattle.std.specs.Prelude.{◌≡◌, ℕ, ◌+◌, ◌-◌, ◌<◌, ◌≤◌, length, slice_set};
-ghost use Rattle.sheet.specs.Spans.{Founded, Spelled, Upward, at, column};
+ghost use Rattle.std.specs.Prelude.{◌≡◌, ℕ, ◌+◌, ◌-◌, ◌<◌, ◌≤◌, length, slice_set, MatchOption};
+ghost use Rattle.sheet.specs.Spans.{Founded, Spelled, Upward, at, column, joins_of, standing_of};
 
 use crate::node::Node;
+use std::array;
 
 pub mod calls;
 pub mod closed;
@@ -15,14 +16,16 @@ pub const MOST_COLUMNS: usize = 64;
 
 pub const MOST_JOINS: usize = 1024;
 
-const MOST_NODES: usize = 1088;
+const MOST_NODES: usize = MOST_COLUMNS + MOST_JOINS;
 
-// The nodes of a sheet: the first `count` records stand, columns first, then joins in order.
+// The nodes of a sheet: the first `count` records stand, columns first, then joins in order. The
+// table is an array with a count, and no Vec: the library takes no memory from the heap.
 #[derive(Drop)]
 pub struct Table {
     nodes: [Node; MOST_NODES],
     count: usize,
     ghost sized: { length nodes ≡ 1088 },
+    ghost within: { count ≤ 1088 },
 }
 
 impl Table {
@@ -32,11 +35,24 @@ impl Table {
         ensures spans { (v : ℕ) → v < n → at result.nodes v ≡ column v }
         ensures counted { result.count ≡ n }
     {
-        let mut nodes = [Node::column(0); MOST_NODES];
-        for i in 0..n {
-            nodes[i] = Node::column(i);
+        Table {
+            nodes: array::from_fn(Node::column),
+            count: n,
         }
-        Table { nodes, count: n }
+    }
+
+    // The nodes that stand.
+    fn standing(&self) -> &[Node]
+        ensures { result.now ≡ standing_of self.now.nodes self.now.count }
+    {
+        &self.nodes[..self.count]
+    }
+
+    // The record of a node, if it stands.
+    fn get(&self, node: usize) -> Option<Node>
+        ensures { MatchOption result (self.now.count ≤ node) (λ d. (node < self.now.count) × (d ≡ at self.now.nodes node)) }
+    {
+        self.standing().get(node).copied()
     }
 
     // One node more, behind the others.
@@ -45,9 +61,8 @@ impl Table {
         ensures rows { self.new.nodes ≡ slice_set self.old.nodes self.old.count node }
         ensures counted { self.new.count ≡ self.old.count + 1 }
     {
-        let at = self.count;
-        self.nodes[at] = node;
-        self.count = at + 1;
+        self.nodes[self.count] = node;
+        self.count += 1;
     }
 
     // The last node no longer stands.

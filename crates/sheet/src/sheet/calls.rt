@@ -12,9 +12,17 @@ impl Sheet {
     pub fn bare() -> Sheet
         ensures { account result ≡ record { columns = 1; joins = [] } }
     {
+        Sheet::of_columns(1)
+    }
+
+    // n columns and no join.
+    fn of_columns(n: usize) -> Sheet
+        requires { (1 ≤ n) × (n ≤ 64) }
+        ensures { account result ≡ record { columns = n; joins = [] } }
+    {
         Sheet {
-            columns: 1,
-            table: Table::columns(1),
+            columns: n,
+            table: Table::columns(n),
         }
     }
 
@@ -22,17 +30,15 @@ impl Sheet {
     pub fn open(&mut self, n: usize) -> Result<(), Refusal>
         ensures { (outcome result, account self.new) ≡ opened (account self.old) n }
     {
-        if n < 1 || n > MOST_COLUMNS {
+        if !(1..=MOST_COLUMNS).contains(&n) {
             return Err(Refusal::Width(n));
         }
-        *self = Sheet {
-            columns: n,
-            table: Table::columns(n),
-        };
+        *self = Sheet::of_columns(n);
         Ok(())
     }
 
     // The number of joins.
+    #[tactic(auto, using(crate::proofs::Standing::count_is))]
     pub fn joins(&self) -> usize
         ensures { (result ≡ length (account self.now).joins) × (result ≤ 1024) }
     {
@@ -77,11 +83,9 @@ impl Sheet {
         ensures node { result ≡ output_of (account self.now) column }
         ensures answers { found result ≡ found (output_of (account self.now) column) }
     {
-        for v in 0..self.table.count {
-            if self.table.nodes[v].first == 0 && self.table.nodes[v].last == column {
-                return Some(v);
-            }
-        }
-        None
+        self.table
+            .standing()
+            .iter()
+            .position(|node| node.spells_to(column))
     }
 }

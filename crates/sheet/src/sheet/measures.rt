@@ -1,31 +1,29 @@
-ghost use Rattle.std.specs.Prelude.{◌≡◌};
-ghost use Rattle.account.specs.Measure.{depth_of, takes, takers, fan_out};
+ghost use Rattle.std.specs.Prelude.{◌≡◌, ℕ, ◌<◌, slice_index};
+ghost use Rattle.account.specs.Measure.{depths, depth_of, takers, fan_out};
 ghost use Rattle.sheet.specs.View.{account};
 
-use crate::node::Node;
-use crate::sheet::Sheet;
-
-// Whether a join takes a node.
-fn taken_by(join: Node, node: usize) -> bool
-    ensures { result ≡ takes node (join.low, join.high) }
-{
-    (join.low == node) | (join.high == node)
-}
+use crate::sheet::{MOST_NODES, Sheet};
 
 impl Sheet {
+    // The depth of each node that stands, in a slot for each that may: the library takes no heap.
+    fn depths(&self) -> [usize; MOST_NODES]
+        ensures { (v : ℕ) → v < self.now.table.count → slice_index result v ≡ slice_index (depths self.now.columns (account self.now).joins) v }
+    {
+        let mut depths = [0usize; MOST_NODES];
+        for (r, join) in self.join_nodes().iter().enumerate() {
+            depths[self.columns + r] = 1 + depths[join.low].max(depths[join.high]);
+        }
+        depths
+    }
+
     // The greatest depth of an output.
     pub(crate) fn depth(&self) -> usize
         ensures { result ≡ depth_of (account self.now) }
     {
-        let columns = self.columns;
-        let count = self.table.count;
-        let mut depths = [0usize; 1088];
-        for v in columns..count {
-            let node = self.table.nodes[v];
-            depths[v] = 1 + depths[node.low].max(depths[node.high]);
-        }
-        let mut deepest: usize = 0;
-        for c in 0..columns {
+        let depths = self.depths();
+        // A loop and no chain: in a closure it is not proved that an output has a place in the list.
+        let mut deepest = 0usize;
+        for c in 0..self.columns {
             if let Some(v) = self.output(c) {
                 deepest = deepest.max(depths[v]);
             }
@@ -34,28 +32,23 @@ impl Sheet {
     }
 
     // How many joins take a node.
+    #[tactic(auto, using(crate::proofs::Standing::takers_are), unfolding(crate::specs::Spans::pairs_of))]
     fn takers_of(&self, node: usize) -> usize
         ensures { result ≡ takers node (account self.now).joins }
     {
-        let columns = self.columns;
-        let count = self.table.count;
-        let mut takers = 0;
-        for v in columns..count {
-            if taken_by(self.table.nodes[v], node) {
-                takers += 1;
-            }
-        }
-        takers
+        self.join_nodes()
+            .iter()
+            .filter(|join| join.takes(node))
+            .count()
     }
 
     // The most joins that take one node.
     pub(crate) fn fan_out(&self) -> usize
         ensures { result ≡ fan_out (account self.now) }
     {
-        let mut most: usize = 0;
-        for v in 0..self.table.count {
-            most = most.max(self.takers_of(v));
-        }
-        most
+        (0..self.table.count)
+            .map(|v| self.takers_of(v))
+            .max()
+            .unwrap_or(0)
     }
 }

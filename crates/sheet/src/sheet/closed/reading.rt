@@ -1,13 +1,15 @@
-ghost use Rattle.std.specs.Prelude.{◌≡◌, ◌+◌, ◌<◌, ◌≤◌, true, length, is_some, MatchOption};
+ghost use Rattle.std.specs.Prelude.{◌≡◌, ◌+◌, ◌<◌, ◌≤◌, true, map, length, is_some, EachIndex, MatchOption};
 ghost use Rattle.account.specs.Account.{output_of};
 ghost use Rattle.account.specs.Words.{pair_at};
 ghost use Rattle.sheet.specs.Closing.{account_of};
+ghost use Rattle.sheet.specs.Spans.{at, pair_of};
 ghost use Rattle.sheet.specs.Measured.{measured, ByFormula};
 
+use crate::node::Node;
 use crate::sheet::closed::ClosedSheet;
 use answers::measure::Measure;
 
-impl<'a> ClosedSheet<'a> {
+impl ClosedSheet<'_> {
     // The number of columns.
     pub fn columns(&self) -> usize
         ensures { (result ≡ (account_of self.now).columns) × (1 ≤ result) × (result ≤ 64) }
@@ -22,15 +24,22 @@ impl<'a> ClosedSheet<'a> {
         self.sheet.joins()
     }
 
+    // The nodes of the joins, in order; the operands of each are nodes before it.
+    #[tactic(auto, using(crate::proofs::Standing::count_is), unfolding(crate::specs::Spans::pairs_of))]
+    pub fn join_nodes(&self) -> &[Node]
+        ensures are { map pair_of result.now ≡ (account_of self.now).joins }
+        ensures all { (length result.now ≡ length (account_of self.now).joins) × (length result.now ≤ 1024) }
+        ensures earlier { EachIndex result.now (λ r. ((at result.now r).low < (account_of self.now).columns + r) × ((at result.now r).high < (account_of self.now).columns + r)) }
+    {
+        self.sheet.join_nodes()
+    }
+
     // The operands of a join, low first; they are nodes before it.
     pub fn operands(&self, join: usize) -> Option<(usize, usize)>
         ensures are { result ≡ pair_at (account_of self.now).joins join }
         ensures earlier { MatchOption result (length (account_of self.now).joins ≤ join) (λ p. (p.0 < (account_of self.now).columns + join) × (p.1 < (account_of self.now).columns + join)) }
     {
-        if join >= self.joins() {
-            return None;
-        }
-        let node = self.sheet.table.nodes[self.sheet.columns + join];
+        let node = self.join_nodes().get(join)?;
         Some((node.low, node.high))
     }
 
@@ -47,13 +56,10 @@ impl<'a> ClosedSheet<'a> {
         ensures counted { result ≡ measured (account_of self.now) }
         ensures formula { ByFormula (account_of self.now) result }
     {
-        let joins = self.joins();
-        let depth = self.sheet.depth();
-        let fan_out = self.sheet.fan_out();
         Measure {
-            joins,
-            depth,
-            fan_out,
+            joins: self.joins(),
+            depth: self.sheet.depth(),
+            fan_out: self.sheet.fan_out(),
         }
     }
 }

@@ -1,19 +1,16 @@
-use Rattle.std.proofs.Common.{◌≡◌, true, is_some, sym, ap, ◌∙◌, below_more}
-use Rattle.account.specs.Account.{output_of}
+use Rattle.std.proofs.Common.{sym, arith}
+use Rattle.account.proofs.Tying.{closes}
 use Rattle.sheet.specs.View.{account}
-use Rattle.sheet.proofs.Standing.{close_more, close_stops}
+use Rattle.sheet.proofs.Standing.{covered_where, refused_where}
 use Rattle.sheet.proofs.sheet.Sheet.close.Goals as goal
+
+pub invariant_of-result : goal.invariant_of-result
+invariant_of-result c = record { covered = covered_where (account c.args.self.now) c.uncovered.result c.uncovered.ensures c.in-None.is }
+
+pub returns-in-Some : goal.returns-in-Some
+returns-in-Some c = refused_where (account c.args.self.now) c.uncovered.result c.in-Some.c c.uncovered.ensures c.in-Some.is
 
 pub returns-in-None : goal.returns-in-None
 returns-in-None c =
-    let s = c.args.self.now in
-    sym (close_stops (account s) c.loop-c.c s.columns c.loop-c-test.true (sym c.in-None.ensures.node))
-    ∙ c.loop-c.invariant.1
-
-pub loop-c-preserved : goal.loop-c-preserved
-loop-c-preserved c =
-    let s = c.args.self.now in
-    let here : is_some (output_of (account s) c.loop-c.c) ≡ true = ap is_some (sym c.in_default.ensures.node) in (
-      below_more _ _ c.loop-c.invariant.0 here,
-      sym (close_more (account s) c.loop-c.c s.columns c.loop-c-test.true here) ∙ c.loop-c.invariant.1,
-    )
+    let a = account c.args.self.now in
+    sym (closes a 0 a.columns (covered_where a c.uncovered.result c.uncovered.ensures c.in-None.is) (omega arith))

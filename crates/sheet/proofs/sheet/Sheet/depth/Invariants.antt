@@ -1,17 +1,10 @@
-use Rattle.std.proofs.Common.{◌≡◌, ℕ, ◌<◌, ◌≤◌, max, map, length, get_or, drop}
+use Rattle.std.proofs.Common.{◌≡◌, max, map, drop}
 use Rattle.std.specs.List.{range_with_len}
 use Rattle.account.specs.Account.{output_of}
 use Rattle.account.specs.Families.{greatest}
 use Rattle.account.specs.Measure.{depths, depth_at, depth_of}
 use Rattle.sheet.specs.View.{account}
 use Rattle.sheet.proofs.sheet.Sheet.depth.Given as goal
-
--- the nodes below v have their depths, and the others 0
-abbrev pub invariant-loop-v : goal.invariant-loop-v
-invariant-loop-v l =
-    (length l.depths ≡ 1088)
-    × ((k : ℕ) → get_or l.depths k 0 ≤ l.v)
-    × ((k : ℕ) → k < l.v → get_or l.depths k 0 ≡ get_or (depths l.self.columns (account l.self).joins) k 0)
 
 -- the outputs from c on decide what is deeper
 abbrev pub invariant-loop-c : goal.invariant-loop-c

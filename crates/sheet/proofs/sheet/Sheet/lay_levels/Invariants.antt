@@ -1,15 +1,15 @@
-use Rattle.std.proofs.Common.{◌≡◌, ℕ, ◌<◌, get_or, drop, fold}
-use Rattle.account.specs.Families.{lay_level, levels, family}
+use Rattle.std.proofs.Common.{◌≡◌, length, take, fold}
+use Rattle.account.specs.Families.{lay_level, family}
 use Rattle.answers.specs.FamilyNumbers.{number_of}
+use Rattle.sheet.specs.Levels.{rest}
 use Rattle.sheet.specs.View.{laying}
 use Rattle.sheet.proofs.sheet.Sheet.lay_levels.Given as goal
 
--- column i is current for itself at first
-abbrev pub invariant-loop-i : goal.invariant-loop-i
-invariant-loop-i l = (j : ℕ) → j < l.i → get_or l.current j 0 ≡ j
-
--- the levels from turn on give the whole family
-abbrev pub invariant-loop-turn : goal.invariant-loop-turn
-invariant-loop-turn l =
-    (l.self.columns ≡ l.n)
-    × ((fold (lay_level l.n) (laying l.self l.current) (drop l.turn (levels (number_of l.family) l.k))).joins ≡ family (number_of l.family) l.n)
+-- the levels still to come give the whole family
+abbrev pub invariant-loop-level : goal.invariant-loop-level
+invariant-loop-level l =
+    let n = l.initial.self.columns in record {
+      wide : l.self.columns ≡ n;
+      long : length l.current ≡ 64;
+      joins : (fold (lay_level n) (laying l.self (take n l.current)) (rest l.level-iterator)).joins ≡ family (number_of l.fn.family) n;
+    }

@@ -1,14 +1,10 @@
-use Rattle.std.proofs.Common.{arith}
-use Rattle.sheet.proofs.Standing.{count_is, all_runs}
+use Rattle.std.proofs.Common.{arith, rules}
+use Rattle.sheet.proofs.Standing.{count_is, span_is}
 use Rattle.sheet.proofs.sheet.Sheet.span.Goals as goal
 
-pub returns-then-node-self : goal.returns-then-node-self
-returns-then-node-self c = let s = c.args.self.now in record { spells = omega (arith, count_is s); runs = all_runs s }
-
-pub returns : goal.returns
-returns c =
-    let s = c.args.self.now in let h = c.if-node-self.false in
-    record {
-      spells = (omega (arith, count_is s), (s.upward c.args.node h).0, s.spelled c.args.node h);
-      runs = all_runs s;
-    }
+pub returns-clause-spells : goal.returns-clause-spells
+returns-clause-spells c =
+    let s = c.args.self.now in
+    let r = c.in_ok-record.ensures in
+    let is = span_is s c.args.node _ r.0 r.1 in
+    (omega (arith, count_is s), search rules, search rules)

@@ -1,10 +1,6 @@
-use Rattle.std.proofs.Common.{◌<◌, ◌≢◌, length, ◌∙◌, arith, length-set, get_or-set_other, get_or-set_same, below_more}
+use Rattle.std.proofs.Common.{arith, rules}
+use Rattle.sheet.specs.Spans.{blank}
 use Rattle.sheet.proofs.sheet.Table.columns.Goals as goal
 
-pub loop-i-preserved : goal.loop-i-preserved
-loop-i-preserved c = (
-  length-set c.loop-i.nodes c.loop-i.i _ ∙ c.loop-i.invariant.0,
-  below_more _ _
-      (λ k h. let ne : k ≢ c.loop-i.i = omega arith in rw get_or-set_other (c.loop-i.invariant.1 k h))
-      (let lt : c.loop-i.i < length c.loop-i.nodes = omega (arith, c.loop-i.invariant.0) in rw get_or-set_same c.column.ensures),
-)
+pub returns-clause-spans : goal.returns-clause-spans
+returns-clause-spans c = λ v h. let w = c.from_fn.ensures.items.at v blank (omega arith) in let r = w.2 in search rules
