@@ -3,14 +3,12 @@ use Rattle.std.proofs.Common.{◌≡◌, ℕ, ◌+◌, ◌*◌, ◌<◌, ◌≤�
 use Rattle.std.specs.List.{prefix_len}
 use Rattle.std.proofs.lemmas.List.{length-take-le}
 use Rattle.std.proofs.lemmas.List.Sums.{prefix_len-le-length}
-use Rattle.std.proofs.lemmas.Bool.{ltb-false, eqb-true, not-false, or_parts, le-ltb, eq-eqb}
+use Rattle.std.proofs.lemmas.Bool.{ltb-false, eqb-true, not-false, or_parts}
 use Rattle.account.specs.Words.{Ordered}
 use Rattle.account.specs.Account.{Account, nodes}
 use Rattle.netlist.specs.declared.gate.Gate.{Gate}
 use Rattle.netlist.specs.Gates.{good_from}
-use Rattle.netlist.specs.declared.refusal.Slots.TheVariants.{Gates}
-use Rattle.netlist.specs.declared.refusal.Refusal.TheVariants.{Short}
-use Rattle.netlist.specs.Refusals.{Answer, number, done, refused, refusal}
+use Rattle.netlist.specs.Refusals.{Answer, number, refused}
 use Rattle.kinds.specs.declared.template.TemplateGate.{TemplateGate}
 use Rattle.kinds.specs.declared.template.Pin.{Pin}
 use Rattle.expansion.specs.Expansion.{appended, wired, written, column_nets, grown_to, admitted, tables, expanded, Computes}
@@ -30,11 +28,8 @@ pub record Admits (t : List TemplateGate) (rs : List Pin) (a : Account) (m : ℕ
   pub answered : total ≡ grown_to t a used
 
 passed : (b : Bool) (k : ℕ) (vs : List ℕ) (n : ℕ) (rest : Answer) → number n ≡ cond b (refused k vs) rest → (b ≡ false) × (number n ≡ rest)
-passed true k vs n rest e = let z : ◌≡◌ {A = ℕ} 0 1 = cc in absurd (omega arith)
+passed true k vs n rest e = absurd cc
 passed false k vs n rest e = (refl, e)
-
-same_number : (m n : ℕ) → number m ≡ number n → m ≡ n
-same_number m n e = cc
 
 pub admits : (t : List TemplateGate) (rs : List Pin) (a : Account) (m : ℕ) (gates : List Gate) (used : ℕ) (nets : List ℕ) (total : ℕ)
     → number total ≡ admitted t rs a m gates used nets → Admits t rs a m gates used nets total
@@ -59,40 +54,30 @@ admits t rs a m gates used nets total e =
       kept = ltb-false (good_from m (take used gates)) used four.0;
       room = ltb-false (length gates) (grown_to t a used) last.0;
       few = ltb-false 1048576 (grown_to t a used) last.1;
-      answered = same_number total (grown_to t a used) six.1;
+      answered = cc (six.1);
     }
+
+-- the gates after an accepted expansion
+pub gates_after : (t : List TemplateGate) (rs : List Pin) (a : Account) (m : ℕ) (gates : List Gate) (used : ℕ) (nets : List ℕ) (total : ℕ) → Admits t rs a m gates used nets total
+    → take total (written gates used (appended t rs (m + used) (column_nets rs a nets) a.joins)) ≡ take used gates ++ appended t rs (m + used) (column_nets rs a nets) a.joins
+gates_after t rs a m gates used nets total y =
+    take_written gates (appended t rs (m + used) (column_nets rs a nets) a.joins) used total y.slots
+    (ap (λ n. used + n) (length_appended t rs (m + used) (column_nets rs a nets) a.joins) ∙ sym y.answered)
 
 -- an accepted expansion computes the products over the words
 pub computed : {E : Type 0} (op : E → E → E) (u : E) (bits : E → List ℕ) (t : List TemplateGate) (rs : List Pin) (l : Monoid op u) (k : Templated op bits t rs)
-    (a : Account) (m : ℕ) (gates : List Gate) (used : ℕ) (nets : List ℕ) (total : ℕ) → Ordered a.columns a.joins → number total ≡ admitted t rs a m gates used nets
-    → Computes op u bits (length rs) a m (take used gates) nets
-    (take total (written gates used (appended t rs (m + used) (column_nets rs a nets) a.joins))) (wired t rs (m + used) (column_nets rs a nets) a.joins)
-computed op u bits t rs l k a m gates used nets total o e =
+    (a : Account) (m : ℕ) (gates : List Gate) (used : ℕ) (nets : List ℕ) (total : ℕ) (gs : List Gate) (ns : List ℕ) → Ordered a.columns a.joins → number total ≡ admitted t rs a m gates used nets
+    → gs ≡ written gates used (appended t rs (m + used) (column_nets rs a nets) a.joins) → ns ≡ wired t rs (m + used) (column_nets rs a nets) a.joins
+    → Computes op u bits (length rs) a m (take used gates) nets (take total gs) ns
+computed op u bits t rs l k a m gates used nets total gs ns o e f g =
     let y = admits t rs a m gates used nets total e in
     let cols : List ℕ = column_nets rs a nets in
     let size : length (take used gates) ≡ used = length-take-le used gates y.slots in
-    let front : take total (written gates used (appended t rs (m + used) cols a.joins)) ≡ take used gates ++ appended t rs (m + used) cols a.joins =
-    take_written gates (appended t rs (m + used) cols a.joins) used total y.slots
-    (ap (λ n. used + n) (length_appended t rs (m + used) cols a.joins) ∙ sym y.answered) in
+    let after : take total gs ≡ take used gates ++ appended t rs (m + used) cols a.joins = ap (take total) f ∙ gates_after t rs a m gates used nets total y in
     let main = computes op u bits t rs l k a m (take used gates) nets o y.columns (subst (λ n. All (λ k. k < m + n) cols) (sym size) y.below) in
-    subst (λ z. Computes op u bits (length rs) a m (take used gates) nets z (wired t rs (m + used) cols a.joins)) (sym front)
-    (subst (λ n. Computes op u bits (length rs) a m (take used gates) nets (take used gates ++ appended t rs (m + n) cols a.joins) (wired t rs (m + n) cols a.joins)) size main)
-
--- the last check refuses, where all others pass
-pub admit_short : (t : List TemplateGate) (rs : List Pin) (a : Account) (m : ℕ) (gates : List Gate) (used : ℕ) (nets : List ℕ)
-    → m ≤ 1024 → used ≤ length gates → used ≤ 1048576 → length nets ≡ nodes a * length rs → used ≤ good_from m (take used gates)
-    → a.columns * length rs ≤ prefix_len (λ k. ltb k (m + used)) (column_nets rs a nets) → (ltb (length gates) (grown_to t a used) || ltb 1048576 (grown_to t a used)) ≡ true
-    → refusal (Short Gates) ≡ admitted t rs a m gates used nets
-admit_short t rs a m gates used nets c d e f g h i =
-    rw (
-      le-ltb 1024 m c,
-      le-ltb (length gates) used d,
-      le-ltb 1048576 used e,
-      eq-eqb (length nets) (nodes a * length rs) f,
-      le-ltb (good_from m (take used gates)) used g,
-      le-ltb (prefix_len (λ k. ltb k (m + used)) (column_nets rs a nets)) (a.columns * length rs) h,
-      i,
-    )
+    subst (λ z. Computes op u bits (length rs) a m (take used gates) nets z ns) (sym after)
+    (subst (λ z. Computes op u bits (length rs) a m (take used gates) nets (take used gates ++ appended t rs (m + used) cols a.joins) z) (sym g)
+    (subst (λ n. Computes op u bits (length rs) a m (take used gates) nets (take used gates ++ appended t rs (m + n) cols a.joins) (wired t rs (m + n) cols a.joins)) size main))
 
 pub expanded_ok : (t : List TemplateGate) (rs : List Pin) (a : Account) (m : ℕ) (gates : List Gate) (used : ℕ) (nets : List ℕ) (total : ℕ) (gs : List Gate) (ns : List ℕ)
     → number total ≡ admitted t rs a m gates used nets → gs ≡ written gates used (appended t rs (m + used) (column_nets rs a nets) a.joins)
@@ -101,25 +86,3 @@ expanded_ok t rs a m gates used nets total gs ns e f g =
     let new : List Gate × List ℕ = (written gates used (appended t rs (m + used) (column_nets rs a nets) a.joins), wired t rs (m + used) (column_nets rs a nets) a.joins) in
     let both : (number total, gs, ns) ≡ tables (number total) new (gates, nets) = cc in
     both ∙ ap (λ r. tables r new (gates, nets)) e
-
--- the tables after a number are the new ones
-pub number_tables : (r : Answer) (new old : List Gate × List ℕ) (total : ℕ) (gs : List Gate) (ns : List ℕ) → tables r new old ≡ (number total, gs, ns)
-    → (number total ≡ r) × (gs ≡ new.0) × (ns ≡ new.1)
-number_tables (number n) new old total gs ns e =
-    (sym (ap (λ (p : Answer × List Gate × List ℕ). p.0) e), sym (ap (λ (p : Answer × List Gate × List ℕ). p.1) e), sym (ap (λ (p : Answer × List Gate × List ℕ). p.2) e))
-number_tables done new old total gs ns e =
-    let f : done ≡ number total = ap (λ (p : Answer × List Gate × List ℕ). p.0) e in
-    let z : ◌≡◌ {A = ℕ} 0 1 = cc in absurd (omega arith)
-number_tables (refused k vs) new old total gs ns e =
-    let f : refused k vs ≡ number total = ap (λ (p : Answer × List Gate × List ℕ). p.0) e in
-    let z : ◌≡◌ {A = ℕ} 0 1 = cc in absurd (omega arith)
-
-pub expansion_computes : {E : Type 0} (op : E → E → E) (u : E) (bits : E → List ℕ) (t : List TemplateGate) (rs : List Pin) (l : Monoid op u) (k : Templated op bits t rs)
-    (a : Account) (m : ℕ) (gates : List Gate) (used : ℕ) (nets : List ℕ) (total : ℕ) (gs : List Gate) (ns : List ℕ) → Ordered a.columns a.joins
-    → expanded t rs a m gates used nets ≡ (number total, gs, ns) → Computes op u bits (length rs) a m (take used gates) nets (take total gs) ns
-expansion_computes op u bits t rs l k a m gates used nets total gs ns o e =
-    let new : List Gate × List ℕ = (written gates used (appended t rs (m + used) (column_nets rs a nets) a.joins), wired t rs (m + used) (column_nets rs a nets) a.joins) in
-    let p = number_tables (admitted t rs a m gates used nets) new (gates, nets) total gs ns e in
-    subst (λ z. Computes op u bits (length rs) a m (take used gates) nets (take total gs) z) (sym p.2)
-    (subst (λ z. Computes op u bits (length rs) a m (take used gates) nets (take total z) (wired t rs (m + used) (column_nets rs a nets) a.joins)) (sym p.1)
-    (computed op u bits t rs l k a m gates used nets total o p.0))

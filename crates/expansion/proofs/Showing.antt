@@ -1,15 +1,14 @@
 -- Join by join, the nets show the values of the nodes.
 use Rattle.std.proofs.Common.{◌≡◌, ℕ, suc, ◌+◌, ◌*◌, ◌<◌, ◌≤◌, true, ltb, List, [], ◌∷◌, ◌++◌, length, get_or, take, drop, All, sym, refl, ap, ◌∙◌, subst, ⊎_elim, mul-le-mul_right, add-mul, arith}
 use Rattle.std.specs.List.{prefix_len}
-use Rattle.std.proofs.lemmas.List.Elements.{All-nil, All-cons, All-head, All-tail, All-append, All-take, All-drop, All-weaker}
-use Rattle.std.proofs.lemmas.List.{get_or_append_left, get_or_push, length-append, length_push, length-map, length-drop, length-take-le, take_all, take_at, take-take, take-append-le, drop_at, drop-append-le}
+use Rattle.std.proofs.lemmas.List.Elements.{All-from_get_or, All-head, All-tail, All-append, All-take, All-drop, All-weaker}
+use Rattle.std.proofs.lemmas.List.{get_or_append_left, get_or_push, length-append, length_push, length-map, length-drop, length-take-le, take_all, take_at, take-append-le, drop_at, drop-append-le}
 use Rattle.std.proofs.lemmas.Bool.{cases_eq, ltb-true}
-use Rattle.std.proofs.lemmas.List.Sums.{prefix_len-le-length}
+use Rattle.std.proofs.lemmas.List.Sums.{prefix_len_passes}
 use Rattle.account.specs.Words.{Pair, Ordered}
 use Rattle.account.specs.Account.{Account}
 use Rattle.netlist.specs.declared.gate.Gate.{Gate}
 use Rattle.netlist.specs.Signals.{signals}
-use Rattle.netlist.proofs.Rules.{all_cons}
 use Rattle.netlist.proofs.Steps.{signals_append, signals_kept, length_signals}
 use Rattle.kinds.specs.declared.template.TemplateGate.{TemplateGate}
 use Rattle.kinds.specs.declared.template.Pin.{Pin}
@@ -17,8 +16,8 @@ use Rattle.kinds.specs.Template.{evaluated, shown, formed, reach}
 use Rattle.scan.specs.Values.{valued}
 use Rattle.expansion.specs.Expansion.{nets_of, net, gates_for, nets_for, appended, wired, column_nets, values, Shows, Computes}
 use Rattle.scan.proofs.Products.{Monoid, value_word}
-use Rattle.expansion.proofs.Placing.{slots_kept}
-use Rattle.expansion.proofs.Templates.{Under, placed_stands, length_evaluated, results_show, results_under}
+use Rattle.expansion.proofs.Placing.{slots_take}
+use Rattle.expansion.proofs.Templates.{Under, Operands, placed_stands, length_evaluated, results_show, results_under}
 
 -- what a kind promises of its template
 pub record Templated {E : Type 0} (op : E → E → E) (bits : E → List ℕ) (t : List TemplateGate) (rs : List Pin) : Type 0 where
@@ -50,6 +49,18 @@ nets_new w v nets more e f = ap (take w) (drop_at nets more (v * w) e) ∙ take_
 pub length_nets : (w v : ℕ) (nets : List ℕ) → v * w + w ≤ length nets → length (nets_of w nets v) ≡ w
 length_nets w v nets h = length-take-le w (drop (v * w) nets) (omega (arith, length-drop (v * w) nets))
 
+under_nets : (n w v : ℕ) (nets : List ℕ) → Under n nets → Under n (nets_of w nets v)
+under_nets n w v nets u = All-take (λ k. k < n) w (drop (v * w) nets) (All-drop (λ k. k < n) (v * w) nets u)
+
+-- the operands of a join, among the nets of the count nodes before it
+pub operands : (n w count : ℕ) (nets : List ℕ) (p : Pair) → length nets ≡ count * w → Under n nets → p.0 < count → p.1 < count → Operands n w (nets_of w nets p.0) (nets_of w nets p.1)
+operands n w count nets p e u a b = record {
+  low_wide = length_nets w p.0 nets (omega (arith, row_in p.0 count w a));
+  high_wide = length_nets w p.1 nets (omega (arith, row_in p.1 count w b));
+  low_under = under_nets n w p.0 nets u;
+  high_under = under_nets n w p.1 nets u;
+}
+
 -- the signals below nets show the elements xs, and the nets stand
 pub record Carries {E : Type 0} (bits : E → List ℕ) (u : E) (w : ℕ) (s nets : List ℕ) (xs : List E) : Type 0 where
   pub long : length nets ≡ length xs * w
@@ -64,18 +75,13 @@ carries_more {E} op u bits t rs k s nets xs p was a b =
     let w : ℕ = length rs in
     let x : E = get_or xs p.0 u in let y : E = get_or xs p.1 u in
     let low : List ℕ = nets_of w nets p.0 in let high : List ℕ = nets_of w nets p.1 in
-    let in-low : p.0 * w + w ≤ length nets = omega (arith, row_in p.0 (length xs) w a, was.long) in
-    let in-high : p.1 * w + w ≤ length nets = omega (arith, row_in p.1 (length xs) w b, was.long) in
-    let e : length low ≡ w = length_nets w p.0 nets in-low in
-    let f : length high ≡ w = length_nets w p.1 nets in-high in
-    let c : Under (length s) low = All-take (λ k. k < length s) w (drop (p.0 * w) nets) (All-drop (λ k. k < length s) (p.0 * w) nets was.below) in
-    let d : Under (length s) high = All-take (λ k. k < length s) w (drop (p.1 * w) nets) (All-drop (λ k. k < length s) (p.1 * w) nets was.below) in
+    let both : Operands (length s) w low high = operands (length s) w (length xs) nets p was.long was.below a b in
     let inner : List ℕ = evaluated t (values s low) (values s high) in
     let new : List ℕ = nets_for rs (length s) nets p in
-    let stands : signals s (gates_for t rs (length s) nets p) ≡ s ++ inner = placed_stands s low high t w e f c d k.formed in
+    let stands : signals s (gates_for t rs (length s) nets p) ≡ s ++ inner = placed_stands s low high t w both k.formed in
     let size : length inner ≡ length t = length_evaluated t (values s low) (values s high) in
     let news : values (s ++ inner) new ≡ bits (op x y) =
-    results_show s inner low high rs w (length t) e f c d k.reaching
+    results_show s inner low high rs w (length t) both k.reaching
     ∙ ap (λ l. shown t rs l (values s high)) (was.shows p.0 a)
     ∙ ap (λ l. shown t rs (bits x) l) (was.shows p.1 b)
     ∙ k.template x y in
@@ -86,7 +92,7 @@ carries_more {E} op u bits t rs k s nets xs p was a b =
       long = length-append nets new ∙ omega (arith, was.long) ∙ sym one ∙ ap (λ n. n * w) (sym (length_push xs (op x y)));
       below = All-append (λ k. k < length (s ++ inner)) nets new
           (All-weaker (λ k. k < length s) (λ k. k < length (s ++ inner)) (λ k h. omega (arith, length-append s inner)) nets was.below)
-          (subst (λ n. Under n new) sized (results_under low high (length s) w (length t) rs e f c d k.reaching));
+          (subst (λ n. Under n new) sized (results_under low high (length s) w (length t) rs both k.reaching));
       shows = λ v h. ⊎_elim
           (λ (g : v ≡ length xs).
           ap (values (s ++ inner)) (nets_new w v nets new (was.long ∙ ap (λ n. n * w) (sym g)) wide)
@@ -95,7 +101,7 @@ carries_more {E} op u bits t rs k s nets xs p was a b =
           (λ (g : v ≡ length xs → ⊥).
           let lt : v < length xs = omega (arith, length_push xs (op x y)) in
           ap (values (s ++ inner)) (nets_before w v nets new (omega (arith, row_in v (length xs) w lt, was.long)))
-          ∙ values_kept s inner (nets_of w nets v) (All-take (λ k. k < length s) w (drop (v * w) nets) (All-drop (λ k. k < length s) (v * w) nets was.below))
+          ∙ values_kept s inner (nets_of w nets v) (under_nets (length s) w v nets was.below)
           ∙ was.shows v lt
           ∙ ap bits (sym (get_or_append_left xs (op x y ∷ []) u v lt)))
           (cases_eq v (length xs));
@@ -135,10 +141,7 @@ length_valued op u xs (p ∷ ps) =
     omega (arith, length_valued op u (xs ++ z ∷ []) ps, length_push xs z)
 
 pub leading_all : (n : ℕ) (ks : List ℕ) → prefix_len (λ k. ltb k n) ks ≡ length ks → All (λ k. k < n) ks
-leading_all n [] e = All-nil (λ k. k < n)
-leading_all n (k ∷ ks) e =
-    let q = all_cons (ltb k n) (prefix_len (λ k. ltb k n) ks) (length ks) (prefix_len-le-length (λ k. ltb k n) ks) e in
-    All-cons (λ j. j < n) k ks (ltb-true k n q.0) (leading_all n ks q.1)
+leading_all n ks e = All-from_get_or (λ k. k < n) ks 0 (λ i h. ltb-true (get_or ks i 0) n (prefix_len_passes (λ k. ltb k n) ks i 0 (omega (arith, e))))
 
 -- the gates appended compute the products over the words
 pub computes : {E : Type 0} (op : E → E → E) (u : E) (bits : E → List ℕ) (t : List TemplateGate) (rs : List Pin) (l : Monoid op u) (k : Templated op bits t rs)
@@ -154,8 +157,7 @@ computes {E} op u bits t rs l k a m before nets o h b inputs xs given =
     let size : base ≡ length s = omega (arith, length_signals inputs before) in
     let app : List Gate = appended t rs base cols a.joins in
     let columns-kept : (v : ℕ) → v < length xs → nets_of (length rs) cols v ≡ nets_of (length rs) nets v =
-    λ v lt. slots_kept (length rs) (v * length rs) (a.columns * length rs) cols nets (row_in v a.columns (length rs) (omega arith))
-    (omega (arith, length-take-le (a.columns * length rs) nets h)) h (take-take (a.columns * length rs) (a.columns * length rs) nets (omega arith)) in
+    λ v lt. slots_take (length rs) (v * length rs) (a.columns * length rs) nets (row_in v a.columns (length rs) (omega arith)) in
     let start : Carries bits u (length rs) s cols xs = record {
       long = length-take-le (a.columns * length rs) nets h ∙ ap (λ n. n * length rs) (sym f);
       below = subst (λ n. All (λ k. k < n) cols) size b;

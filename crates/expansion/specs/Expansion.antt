@@ -1,15 +1,16 @@
 -- What an expansion leaves: the gates of each join, placed over the nets of its operands, and the join's nets.
-use Rattle.std.specs.Prelude.{◌≡◌, ℕ, ◌+◌, ◌*◌, ◌<◌, cond, not, ◌||◌, ltb, List, [], ◌∷◌, ◌++◌, map, length, take, drop, fold, All, ◌==◌, nat_lt, slice_index, slice_index_or}
+use Rattle.std.specs.Prelude.{◌≡◌, ℕ, ◌+◌, ◌*◌, ◌<◌, cond, false, not, ◌||◌, ltb, List, [], ◌∷◌, ◌++◌, map, length, take, drop, fold, All, ◌==◌, nat_lt, slice_index, slice_index_or}
 use Rattle.std.specs.List.{prefix_len}
 use Rattle.account.specs.Words.{Pair}
 use Rattle.account.specs.Account.{Account, nodes, word_of}
 use Rattle.netlist.specs.declared.gate.Gate.{Gate}
-use Rattle.netlist.specs.Gates.{good_from}
+use Rattle.netlist.specs.Gates.{constant_gate, one_gate, two_gate, good_from}
 use Rattle.netlist.specs.Signals.{signals}
 use Rattle.netlist.specs.declared.refusal.Slots.TheVariants.{Gates}
 use Rattle.netlist.specs.declared.refusal.Refusal.TheVariants.{Length, Short, BadGate, BadNet}
 use Rattle.netlist.specs.Refusals.{Answer, number, done, refused, refusal}
 use Rattle.kinds.specs.declared.template.TemplateGate.{TemplateGate}
+use Rattle.kinds.specs.declared.template.TemplateGate.TheVariants.{Zero, One, Two}
 use Rattle.kinds.specs.declared.template.Pin.{Pin}
 use Rattle.kinds.specs.declared.template.Pin.TheVariants.{Low, High, Inner}
 use Rattle.scan.specs.Values.{over, AtOutput}
@@ -30,12 +31,9 @@ net low high base (Inner k) = base + k
 
 -- A template gate over those nets.
 abbrev pub placed : List ℕ → List ℕ → ℕ → TemplateGate → Gate
-placed low high base g = record {
-  arity = g.arity;
-  a = net low high base g.a;
-  b = cond (g.arity == 1) 0 (net low high base g.b);
-  table = g.table;
-}
+placed low high base Zero = constant_gate false
+placed low high base (One table a) = one_gate table (net low high base a)
+placed low high base (Two table a b) = two_gate table (net low high base a) (net low high base b)
 
 -- The gates of the template t, and the nets of its result pins rs, over the operands of p.
 abbrev pub gates_for : List TemplateGate → List Pin → ℕ → List ℕ → Pair → List Gate

@@ -1,9 +1,10 @@
-ghost use Rattle.std.specs.Prelude.{◌≡◌, ℕ, ◌+◌, ◌*◌, ◌<◌, ◌≤◌, true, map, length, take, nat_lt};
+ghost use Rattle.std.specs.Prelude.{◌≡◌, ℕ, ◌+◌, ◌*◌, ◌<◌, ◌≤◌, true, map, length, take, nat_lt, ◌++◌};
 ghost use Rattle.std.specs.List.{prefix_len};
 ghost use Rattle.kinds.specs.Template.{within, keeps};
 ghost use Rattle.account.specs.Account.{nodes};
 ghost use Rattle.sheet.specs.Closing.{account_of};
-ghost use Rattle.expansion.specs.Expansion.{slots, net, placed, written, appended, wired, column_nets, grown_to, admitted, expanded, Computes, Prefixes, Stands};
+ghost use Rattle.sheet.specs.Spans.{pair_of};
+ghost use Rattle.expansion.specs.Expansion.{net, placed, gates_for, nets_for, written, appended, wired, column_nets, grown_to, admitted, expanded, Computes, Prefixes, Stands};
 ghost use Rattle.netlist.specs.Refusals.{count, number};
 
 use kinds::kind::Kind;
@@ -11,111 +12,85 @@ use kinds::template::{Pin, TemplateGate};
 use netlist::gate::{Gate, good_gates};
 use netlist::refusal::{Refusal, Slots};
 use netlist::simulation::{MOST_GATES, MOST_INPUTS};
+use sheet::node::Node;
 use sheet::sheet::closed::ClosedSheet;
 
-// The signal that a pin reads, where low and high are the operands' nets and the template's first
-// gate is signal base.
-fn pin_net(pin: Pin, low: &[usize], high: &[usize], base: usize) -> usize
-    requires reads { within (length low.now) 256 pin ≡ true }
-    requires wide { length high.now ≡ length low.now }
-    requires base { base ≤ 2097152 }
-    ensures { result ≡ net low.now high.now base pin }
-{
-    match pin {
-        Pin::Low(k) => low[k as usize],
-        Pin::High(k) => high[k as usize],
-        Pin::Inner(k) => base + k as usize,
-    }
-}
-
-// A template gate over those nets.
-fn placed_gate(g: TemplateGate, low: &[usize], high: &[usize], base: usize) -> Gate
-    requires keeps { keeps (length low.now) 256 g ≡ true }
-    requires wide { length high.now ≡ length low.now }
-    requires base { base ≤ 2097152 }
-    ensures { result ≡ placed low.now high.now base g }
-{
-    let a = pin_net(g.a, low, high, base);
-    if g.arity == 1 {
-        return Gate {
-            arity: g.arity,
-            a,
-            b: 0,
-            table: g.table,
-        };
-    }
-    let b = pin_net(g.b, low, high, base);
-    Gate {
-        arity: g.arity,
-        a,
-        b,
-        table: g.table,
-    }
-}
-
-// Fills the slots with the template over those nets.
-fn place_gates<K: Kind>(low: &[usize], high: &[usize], base: usize, gates: &mut [Gate])
-    requires low { length low.now ≡ length K.Kind.results }
-    requires high { length high.now ≡ length K.Kind.results }
-    requires base { base ≤ 2097152 }
-    requires size { length gates.old ≡ length K.Kind.gates }
-    requires most { length K.Kind.gates ≤ 256 }
-    ensures { gates.new ≡ map (placed low.now high.now base) K.Kind.gates }
-{
-    for k in 0..gates.len() {
-        let gate = placed_gate(K::gate(k), low, high, base);
-        gates[k] = gate;
-    }
-}
-
-// Writes the nets of the template's result from slot at on, where the operands' nets stand from low
-// and high on.
-fn place_nets<K: Kind>(nets: &mut [usize], low: usize, high: usize, at: usize, base: usize)
-    requires low { low + length K.Kind.results ≤ at }
-    requires high { high + length K.Kind.results ≤ at }
-    requires at { at + length K.Kind.results ≤ length nets.old }
-    requires base { base ≤ 2097152 }
-    requires most { length K.Kind.gates ≤ 256 }
-    ensures { nets.new ≡ written nets.old at (map (net (slots (length K.Kind.results) nets.old low) (slots (length K.Kind.results) nets.old high) base) K.Kind.results) }
-{
-    let w = K::width();
-    for b in 0..w {
-        nets[at + b] = pin_net(
-            K::result(b),
-            &nets[low..low + w],
-            &nets[high..high + w],
-            base,
-        );
-    }
-}
-
-// Places the gates of a join from slot on, and its nets from at on.
-fn place<K: Kind>(
-    nets: &mut [usize],
-    low: usize,
-    high: usize,
-    at: usize,
-    gates: &mut [Gate],
-    slot: usize,
+// The nets of a join's operands, and the signal of its template's first gate.
+#[derive(Drop)]
+struct Operands<'a> {
+    low: &'a [usize],
+    high: &'a [usize],
     base: usize,
-)
-    requires low { low + length K.Kind.results ≤ at }
-    requires high { high + length K.Kind.results ≤ at }
-    requires at { at + length K.Kind.results ≤ length nets.old }
-    requires slot { slot + length K.Kind.gates ≤ length gates.old }
+    ghost wide: { length high.now ≡ length low.now },
+    ghost small: { base ≤ 2097152 },
+}
+
+impl Operands<'_> {
+    // The signal that a pin reads.
+    fn net(&self, pin: Pin) -> usize
+        requires { within (length self.now.low.now) 256 pin ≡ true }
+        ensures { result ≡ net self.now.low.now self.now.high.now self.now.base pin }
+    {
+        match pin {
+            Pin::Low(k) => self.low[usize::from(k)],
+            Pin::High(k) => self.high[usize::from(k)],
+            Pin::Inner(k) => self.base + usize::from(k),
+        }
+    }
+
+    // A template gate over those nets.
+    fn gate(&self, gate: TemplateGate) -> Gate
+        requires { keeps (length self.now.low.now) 256 gate ≡ true }
+        ensures { result ≡ placed self.now.low.now self.now.high.now self.now.base gate }
+    {
+        match gate {
+            TemplateGate::Zero => Gate::constant(false),
+            TemplateGate::One(table, a) => Gate::one(table, self.net(a)),
+            TemplateGate::Two(table, a, b) => Gate::two(table, self.net(a), self.net(b)),
+        }
+    }
+
+    // Places a join of these operands: fills the slots with its gates and its nets.
+    #[tactic(auto, using(kinds::proofs::Ranges::reach_at, crate::proofs::Placing::gate_keeps))]
+    fn place<K: Kind>(&self, gates: &mut [Gate], nets: &mut [usize])
+        requires wide { length self.now.low.now ≡ length K.Kind.results }
+        requires gates { length gates.old ≡ length K.Kind.gates }
+        requires most { length K.Kind.gates ≤ 256 }
+        requires nets { length nets.old ≡ length K.Kind.results }
+        ensures gates { gates.new ≡ map (placed self.now.low.now self.now.high.now self.now.base) K.Kind.gates }
+        ensures nets { nets.new ≡ map (net self.now.low.now self.now.high.now self.now.base) K.Kind.results }
+    {
+        // Two loops of a line each; a function over a closure for both is no plainer.
+        for (k, gate) in gates.iter_mut().enumerate() {
+            *gate = self.gate(K::gate(k));
+        }
+        for (b, net) in nets.iter_mut().enumerate() {
+            *net = self.net(K::result(b));
+        }
+    }
+}
+
+// Places a join, whose own nets stand from place at on, behind those of the nodes before it.
+fn place_join<K: Kind>(join: &Node, base: usize, gates: &mut [Gate], at: usize, nets: &mut [usize])
+    requires low { join.now.low * length K.Kind.results + length K.Kind.results ≤ at }
+    requires high { join.now.high * length K.Kind.results + length K.Kind.results ≤ at }
     requires base { base ≤ 2097152 }
-    ensures gates { gates.new ≡ written gates.old slot (map (placed (slots (length K.Kind.results) nets.old low) (slots (length K.Kind.results) nets.old high) base) K.Kind.gates) }
-    ensures nets { nets.new ≡ written nets.old at (map (net (slots (length K.Kind.results) nets.old low) (slots (length K.Kind.results) nets.old high) base) K.Kind.results) }
+    requires gates { length gates.old ≡ length K.Kind.gates }
+    requires most { length K.Kind.gates ≤ 256 }
+    requires nets { at + length K.Kind.results ≡ length nets.old }
+    ensures gates { gates.new ≡ gates_for K.Kind.gates K.Kind.results base (take at nets.old) (pair_of join.now) }
+    ensures nets { nets.new ≡ take at nets.old ++ nets_for K.Kind.results base (take at nets.old) (pair_of join.now) }
 {
-    let w = K::width();
-    let size = K::size();
-    place_gates::<K>(
-        &nets[low..low + w],
-        &nets[high..high + w],
+    let w = K::NETS;
+    let (before, own) = nets.split_at_mut(at);
+    // The nets before are only read.
+    let before = &before[..];
+    let operands = Operands {
+        low: &before[join.low * w..join.low * w + w],
+        high: &before[join.high * w..join.high * w + w],
         base,
-        &mut gates[slot..slot + size],
-    );
-    place_nets::<K>(nets, low, high, at, base);
+    };
+    operands.place::<K>(gates, own);
 }
 
 // Appends the gates of all joins, and fills their nets.
@@ -133,17 +108,19 @@ fn append<K: Kind>(
     ensures gates { gates.new ≡ written gates.old used (appended K.Kind.gates K.Kind.results (m + used) (column_nets K.Kind.results (account_of closed.now) nets.old) (account_of closed.now).joins) }
     ensures nets { nets.new ≡ wired K.Kind.gates K.Kind.results (m + used) (column_nets K.Kind.results (account_of closed.now) nets.old) (account_of closed.now).joins }
 {
-    let w = K::width();
+    let w = K::NETS;
     let size = K::size();
-    let mut slot = used;
-    let mut at = closed.columns() * w;
-    for r in 0..closed.joins() {
-        let Some((low, high)) = closed.operands(r) else {
-            unreachable()
-        };
-        place::<K>(nets, low * w, high * w, at, gates, slot, m + slot);
-        slot += size;
-        at += w;
+    // Places, and no chunks: a template may have no gates, and there are no chunks of 0.
+    for (r, join) in closed.join_nodes().iter().enumerate() {
+        let slot = used + r * size;
+        let at = (closed.columns() + r) * w;
+        place_join::<K>(
+            join,
+            m + slot,
+            &mut gates[slot..slot + size],
+            at,
+            &mut nets[..at + w],
+        );
     }
 }
 
@@ -151,12 +128,7 @@ fn append<K: Kind>(
 fn nets_below(nets: &[usize], limit: usize) -> usize
     ensures { result ≡ prefix_len (λ k. nat_lt k limit) nets.now }
 {
-    for (i, k) in nets.iter().enumerate() {
-        if *k >= limit {
-            return i;
-        }
-    }
-    nets.len()
+    nets.iter().take_while(|k| **k < limit).count()
 }
 
 // The used count after an expansion, or the first check that refuses it.
@@ -169,7 +141,6 @@ fn admit<K: Kind>(
 ) -> Result<usize, Refusal>
     ensures { count result ≡ admitted K.Kind.gates K.Kind.results (account_of closed.now) m gates.now used nets.now }
 {
-    let w = K::width();
     let n = closed.columns();
     let joins = closed.joins();
     if m > MOST_INPUTS {
@@ -178,15 +149,16 @@ fn admit<K: Kind>(
     if used > gates.len() || used > MOST_GATES {
         return Err(Refusal::Length(used));
     }
-    if nets.len() != (n + joins) * w {
+    if nets.len() != (n + joins) * K::NETS {
         return Err(Refusal::Length(nets.len()));
     }
     let good = good_gates(&gates[..used], m);
     if good < used {
         return Err(Refusal::BadGate(good));
     }
-    let below = nets_below(&nets[..n * w], m + used);
-    if below < n * w {
+    let columns = &nets[..n * K::NETS];
+    let below = nets_below(columns, m + used);
+    if below < columns.len() {
         return Err(Refusal::BadNet(below));
     }
     let total = used + joins * K::size();
@@ -201,7 +173,7 @@ fn admit<K: Kind>(
 // node v is net v * w + b of the list, w being the kind's number of nets; the nets of the columns are
 // given. Refused, in this order, where m, the used count or the list has a length that does not fit,
 // a used gate is not good, a column net is no signal, or the gates have no room; then nothing is
-// written.
+// written. The gates and the nets are the caller's, with the count used beside them.
 pub fn expand<K: Kind>(
     closed: &ClosedSheet,
     m: usize,

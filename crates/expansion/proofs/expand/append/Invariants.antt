@@ -3,4 +3,4 @@ use Rattle.expansion.proofs.Appending.{Laid}
 use Rattle.expansion.proofs.expand.append.Given as goal
 
 abbrev pub invariant-loop-r : goal.invariant-loop-r
-invariant-loop-r g l = Laid g.K.Kind.gates g.K.Kind.results (account_of l.closed) l.m l.initial.gates l.used l.initial.nets l.gates l.nets l.slot l.at l.r
+invariant-loop-r g l = Laid g.K.Kind.gates g.K.Kind.results (account_of l.closed) l.m l.used l.initial.gates l.initial.nets l.gates l.nets l.r
