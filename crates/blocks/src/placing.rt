@@ -1,13 +1,11 @@
-ghost use Rattle.std.specs.Prelude.{◌≡◌, ◌+◌, ◌*◌, ◌<◌, ◌≤◌, length};
-ghost use Rattle.account.specs.Account.{nodes};
+ghost use Rattle.std.specs.Prelude.{◌≡◌, ℕ, ◌+◌, ◌*◌, ◌<◌, ◌≤◌, length, slice_index_or};
 ghost use Rattle.sheet.specs.Closing.{account_of};
 ghost use Rattle.netlist.specs.Refusals.{count};
 ghost use Rattle.expansion.specs.Expansion.{expanded, written};
 ghost use Rattle.meaning.specs.Layout.{template, results, width as element_width, leaf_count, end_count, output_count, leaves, column_nets, first_end, end_gates, buffers};
-ghost use Rattle.blocks.specs.Building.{start_of};
 
-use crate::layout::{column_net, end_count, leaf_count, leaf_gate, output_count, width};
-use crate::nets::{end_gate, output_net};
+use crate::layout::Layout;
+use crate::nets::Wired;
 use expansion::expand::expand;
 use kinds::carry::Carries;
 use kinds::map::Maps;
@@ -18,29 +16,36 @@ use netlist::gate::{BUFFER, Gate};
 use netlist::refusal::Refusal;
 use sheet::sheet::closed::ClosedSheet;
 
-// Writes the leaf gates of n columns from slot 0 on.
-pub(crate) fn place_leaves(block: Block, n: usize, gates: &mut [Gate])
-    requires few { n ≤ 64 }
-    requires room { leaf_count block n ≤ length gates.old }
-    ensures { gates.new ≡ written gates.old 0 (leaves block n) }
+// Writes f of 0, 1, .. into the slots.
+fn fill_from<T: Copy, F: Fn(usize) -> T>(slots: &mut [T], f: F)
+    requires { (k : ℕ) → k < length slots.old → F.pre f k }
+    ensures { (k : ℕ) (d : T) → k < length slots.new → F.post f k (slice_index_or slots.new k d) }
 {
-    for k in 0..leaf_count(block, n) {
-        gates[k] = leaf_gate(block, n, k);
+    for (k, slot) in slots.iter_mut().enumerate() {
+        *slot = f(k);
     }
 }
 
-// Fills the nets of n columns.
-pub(crate) fn place_columns(block: Block, n: usize, nets: &mut [usize])
-    requires few { n ≤ 64 }
-    requires room { n * element_width block ≤ length nets.old }
-    ensures { nets.new ≡ written nets.old 0 (column_nets block n) }
+// Writes the leaf gates from slot 0 on.
+pub(crate) fn place_leaves(layout: Layout, gates: &mut [Gate])
+    requires { leaf_count layout.block layout.columns ≤ length gates.old }
+    ensures { gates.new ≡ written gates.old 0 (leaves layout.block layout.columns) }
 {
-    for k in 0..n * width(block) {
-        nets[k] = column_net(block, n, k);
-    }
+    let count = layout.leaf_count();
+    fill_from(&mut gates[..count], |k| layout.leaf_gate(k));
 }
 
-// Expands the joins with the template of the block's kind.
+// Fills the nets of the columns.
+pub(crate) fn place_columns(layout: Layout, nets: &mut [usize])
+    requires { layout.columns * element_width layout.block ≤ length nets.old }
+    ensures { nets.new ≡ written nets.old 0 (column_nets layout.block layout.columns) }
+{
+    let count = layout.columns * layout.width();
+    fill_from(&mut nets[..count], |k| layout.column_net(k));
+}
+
+// Expands the joins with the template of the block's kind: a block is a value and a kind a type, and
+// here the one picks the other.
 pub(crate) fn place_joins(
     block: Block,
     closed: &ClosedSheet,
@@ -60,39 +65,22 @@ pub(crate) fn place_joins(
 }
 
 // Writes the end gates from slot at on.
-pub(crate) fn place_ends(
-    block: Block,
-    closed: &ClosedSheet,
-    nets: &[usize],
-    gates: &mut [Gate],
-    at: usize,
-)
-    requires nets { length nets.now ≡ nodes (account_of closed.now) * element_width block }
-    requires room { at + end_count block (account_of closed.now).columns ≤ length gates.old }
-    ensures { gates.new ≡ written gates.old at (end_gates block (account_of closed.now) nets.now) }
+pub(crate) fn place_ends(wired: &Wired, gates: &mut [Gate], at: usize)
+    requires { at + end_count wired.now.layout.block (account_of wired.now.closed.now).columns ≤ length gates.old }
+    ensures { let w = wired.now in gates.new ≡ written gates.old at (end_gates w.layout.block (account_of w.closed.now) w.nets.now) }
 {
-    for k in 0..end_count(block, closed.columns()) {
-        gates[at + k] = end_gate(block, closed, nets, k);
-    }
+    let count = wired.layout.end_count();
+    fill_from(&mut gates[at..at + count], |k| wired.end_gate(k));
 }
 
 // Writes the output buffers from slot at on, where the end gates stand from signal first on.
-pub(crate) fn place_buffers(
-    block: Block,
-    closed: &ClosedSheet,
-    nets: &[usize],
-    gates: &mut [Gate],
-    at: usize,
-    first: usize,
-)
-    requires start { start_of block ≤ 3 }
-    requires nets { length nets.now ≡ nodes (account_of closed.now) * element_width block }
-    requires room { at + output_count block (account_of closed.now).columns ≤ length gates.old }
-    requires first { (first ≡ first_end block (account_of closed.now)) × (first ≤ 2097152) }
-    ensures { gates.new ≡ written gates.old at (buffers block (account_of closed.now) nets.now) }
+pub(crate) fn place_buffers(wired: &Wired, gates: &mut [Gate], at: usize, first: usize)
+    requires room { at + output_count wired.now.layout.block (account_of wired.now.closed.now).columns ≤ length gates.old }
+    requires first { (first ≡ first_end wired.now.layout.block (account_of wired.now.closed.now)) × (first ≤ 2097152) }
+    ensures { let w = wired.now in gates.new ≡ written gates.old at (buffers w.layout.block (account_of w.closed.now) w.nets.now) }
 {
-    for k in 0..output_count(block, closed.columns()) {
-        let signal = output_net(block, closed, nets, first, k);
-        gates[at + k] = Gate::one(BUFFER, signal);
-    }
+    let count = wired.layout.output_count();
+    fill_from(&mut gates[at..at + count], |k| {
+        Gate::one(BUFFER, wired.output_net(first, k))
+    });
 }

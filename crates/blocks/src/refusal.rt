@@ -2,10 +2,11 @@ ghost use Rattle.std.specs.Prelude.{◌≡◌, [], ◌∷◌};
 ghost use Rattle.blocks.specs.Refusals.{number_of, values_of};
 
 use netlist::refusal::Slots;
+use std::error::Error;
 use std::fmt;
 
 // Why a block was not built.
-#[derive(Clone, Copy)]
+#[derive(Clone, Copy, Debug, PartialEq, Eq, Hash)]
 pub enum Refusal {
     // A machine's start that is none of its states.
     Start(usize),
@@ -14,7 +15,7 @@ pub enum Refusal {
 }
 
 impl Refusal {
-    // The number under which the refusal is known.
+    // The number under which the refusal is known; each case carries a value, so that it is no discriminant.
     pub fn number(&self) -> u8
         ensures { result ≡ number_of self.now }
     {
@@ -50,3 +51,5 @@ impl fmt::Display for Refusal {
         }
     }
 }
+
+impl Error for Refusal {}

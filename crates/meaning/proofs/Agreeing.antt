@@ -3,15 +3,10 @@ use Rattle.std.proofs.Common.{◌≡◌, ℕ, List, map, length, sym, ap, ◌∙
 use Rattle.std.specs.List.{range_with_len}
 use Rattle.account.specs.Account.{Account}
 use Rattle.netlist.specs.Gates.{good_from}
-use Rattle.kinds.specs.Carry.{carry_unit, carry_product, carry_bits}
-use Rattle.kinds.specs.Parity.{parity_unit, parity_product, parity_bits}
-use Rattle.kinds.specs.Verdict.{verdict_unit, verdict_product, verdict_bits}
-use Rattle.kinds.specs.Map.{map_unit, map_product, map_bits}
 use Rattle.meaning.specs.declared.block.Block.{Block}
 use Rattle.meaning.specs.declared.block.Block.TheVariants.{Adder, Comparator, GrayDecoder, Machine as MachineBlock}
 use Rattle.meaning.specs.Numbers.{Bits}
 use Rattle.meaning.specs.Layout.{input_count, output_count, gate_count, block_gates, outputs_of, Computes}
-use Rattle.meaning.proofs.KindLaws.{carries, carries_templated, parities, parities_templated, verdicts, verdicts_templated, maps, maps_templated}
 use Rattle.meaning.proofs.Rules.{Starts}
 use Rattle.meaning.proofs.Wiring.{Sheetly, block_length, block_good}
 use Rattle.meaning.proofs.Adding.{added, adder_outputs, adder_means}
@@ -20,16 +15,10 @@ use Rattle.meaning.proofs.Decoding.{decoded, gray_outputs, gray_means}
 use Rattle.meaning.proofs.Following.{followed, machine_outputs, machine_means}
 
 pub length_is : (b : Block) (a : Account) → Sheetly a → Starts b → length (block_gates b a) ≡ gate_count b a
-length_is Adder a s t = block_length carry_product carry_unit carry_bits Adder carries carries_templated a s t
-length_is Comparator a s t = block_length verdict_product verdict_unit verdict_bits Comparator verdicts verdicts_templated a s t
-length_is GrayDecoder a s t = block_length parity_product parity_unit parity_bits GrayDecoder parities parities_templated a s t
-length_is (MachineBlock m) a s t = block_length map_product map_unit map_bits (MachineBlock m) maps maps_templated a s t
+length_is = block_length
 
 pub all_good : (b : Block) (a : Account) → Sheetly a → Starts b → good_from (input_count b a.columns) (block_gates b a) ≡ length (block_gates b a)
-all_good Adder a s t = block_good carry_product carry_unit carry_bits Adder carries carries_templated a s t
-all_good Comparator a s t = block_good verdict_product verdict_unit verdict_bits Comparator verdicts verdicts_templated a s t
-all_good GrayDecoder a s t = block_good parity_product parity_unit parity_bits GrayDecoder parities parities_templated a s t
-all_good (MachineBlock m) a s t = block_good map_product map_unit map_bits (MachineBlock m) maps maps_templated a s t
+all_good = block_good
 
 -- what output k of a block of n columns carries, on any sheet
 abbrev expected : Block → ℕ → List ℕ → ℕ → ℕ

@@ -1,5 +1,5 @@
 -- Numbers whose bits are made by their place.
-use Rattle.std.proofs.Common.{◌≡◌, ℕ, zero, suc, ◌+◌, ◌*◌, ◌^◌, ◌<◌, ◌≤◌, true, false, List, [], ◌∷◌, ◌++◌, map, length, get_or, take, drop, sym, refl, ap, ◌∙◌, subst, mul_assoc, arith}
+use Rattle.std.proofs.Common.{◌≡◌, ℕ, zero, suc, ◌+◌, ◌*◌, ◌^◌, ◌<◌, ◌≤◌, List, [], ◌∷◌, ◌++◌, map, length, get_or, take, drop, sym, refl, ap, ◌∙◌, subst, mul_assoc, arith}
 use native.Mathlib.Nat.{pow-succ'}
 use Rattle.std.specs.List.{range_with_len}
 use Rattle.std.proofs.lemmas.List.FromFn.{length-map-range_with_len, map-range_with_len_more, fill_by_all, get_or-map-range_with_len}
@@ -40,7 +40,7 @@ rest_made xs n c b h =
     fill_by_all (bit_from xs n) (drop n xs) c 0 (length-drop n xs ∙ omega arith) (λ k lt. get_or-drop n xs k 0 ∙ set_bit xs (n + k) b)
 
 -- the nets of node v among nets made by their place
-pub nets_made : (f : ℕ → ℕ) (n w v : ℕ) → v < n → nets_of w (map f (range_with_len 0 (n * w))) v ≡ map (λ j. f (v * w + j)) (range_with_len 0 w)
+nets_made : (f : ℕ → ℕ) (n w v : ℕ) → v < n → nets_of w (map f (range_with_len 0 (n * w))) v ≡ map (λ j. f (v * w + j)) (range_with_len 0 w)
 nets_made f n w v lt =
     let C : List ℕ = map f (range_with_len 0 (n * w)) in
     let room : v * w + w ≤ n * w = row_in v n w lt in
@@ -54,7 +54,7 @@ up_small xs p zero = omega arith
 up_small xs p (suc k) =
     let f : ℕ → ℕ = bit_from xs p in
     let up : suc k ≡ k + 1 = omega arith in
-    let le : 2 ^ k * f k ≤ 2 ^ k = elim (is_set xs (p + k)) as (λ t. 2 ^ k * bit_of t ≤ 2 ^ k) [ true ↦ omega arith | false ↦ omega arith ] in
+    let le : 2 ^ k * f k ≤ 2 ^ k = grind arith in
     let goal : up_to f (k + 1) < 2 ^ (suc k) = omega (arith, up_small xs p k, up_more f k, le, pow-succ' 2 k) in
     subst (λ t. up_to f t < 2 ^ (suc k)) (sym up) goal
 

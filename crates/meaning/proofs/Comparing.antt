@@ -1,9 +1,8 @@
 -- The comparator: its buffers carry the order of the two numbers.
-use Rattle.std.proofs.Common.{◌≡◌, ℕ, zero, suc, ◌+◌, ◌-◌, ◌*◌, ◌/◌, ◌%◌, ◌^◌, ◌<◌, ◌≤◌, Bool, true, false, cond, not, ◌&&◌, ltb, List, [], ◌∷◌, map, length, get_or, take, fold, sym, refl, ap, ◌∙◌, subst, ⊎_elim, arith}
+use Rattle.std.proofs.Common.{◌≡◌, ℕ, zero, suc, ◌+◌, ◌-◌, ◌*◌, ◌/◌, ◌%◌, ◌^◌, ◌<◌, ◌≤◌, Bool, cond, not, ltb, List, [], ◌∷◌, map, length, get_or, take, fold, sym, refl, ap, ◌∙◌, subst, arith, rules}
 use Rattle.std.specs.List.{range_with_len}
-use Rattle.std.proofs.lemmas.List.FromFn.{length-map-range_with_len, get_or-map-range_with_len, fill_by_all}
+use Rattle.std.proofs.lemmas.List.FromFn.{length-map-range_with_len, get_or-map-range_with_len}
 use Rattle.std.proofs.lemmas.List.Sums.{fold_more}
-use Rattle.std.proofs.lemmas.Bool.{lt-ltb, le-ltb, cases_order}
 use Rattle.std.proofs.lemmas.Bool.Decides.{nat_tests}
 use Rattle.account.specs.Account.{Account}
 use Rattle.netlist.specs.Signals.{value_over, signals}
@@ -11,15 +10,15 @@ use Rattle.kinds.specs.declared.elements.Verdict.{Verdict}
 use Rattle.kinds.specs.declared.elements.Verdict.TheVariants.{Equal, Less, Greater}
 use Rattle.kinds.specs.Template.{bit_of}
 use Rattle.kinds.specs.Verdict.{verdict_unit, verdict_product, verdict_bits}
-use Rattle.expansion.specs.Expansion.{Shows, values}
+use Rattle.expansion.specs.Expansion.{Shows}
 use Rattle.meaning.specs.declared.block.Block.TheVariants.{Comparator}
 use Rattle.meaning.specs.Numbers.{value, Bits}
 use Rattle.meaning.specs.Meaning.{first, second, Compares}
 use Rattle.meaning.specs.Layout.{comparator_leaf, column_net, column_nets, leaves, block_gates, outputs_of}
-use Rattle.meaning.proofs.KindLaws.{verdicts, verdicts_templated}
-use Rattle.meaning.proofs.Signals.{is_set, set_bit, input_kept, not_value, and_value}
-use Rattle.meaning.proofs.Binary.{up_to, up_more, up_small, bit_from, front_made, rest_made, nets_made}
-use Rattle.meaning.proofs.Wiring.{Sheetly, leaf_first, outputs_length, output_value, shown}
+use Rattle.meaning.proofs.KindLaws.{verdict_wide}
+use Rattle.meaning.proofs.Signals.{is_set, input_bit, not_value, and_value}
+use Rattle.meaning.proofs.Binary.{up_to, up_more, up_small, bit_from, front_made, rest_made, shows_made}
+use Rattle.meaning.proofs.Wiring.{Sheetly, leaf_first, outputs_made, output_value, shown}
 
 -- how two bits compare
 abbrev compared : Bool → Bool → Verdict
@@ -41,87 +40,59 @@ columns_length n inputs = length-map-range_with_len (column n inputs) 0 n
 column_at : (n : ℕ) (inputs : List ℕ) (i : ℕ) → i < n → get_or (columns n inputs) i verdict_unit ≡ column n inputs i
 column_at n inputs i lt = get_or-map-range_with_len (column n inputs) 0 n i i verdict_unit lt (omega arith)
 
-compared_bits : (x y : Bool) → bit_of (not x && y) ∷ bit_of (x && not y) ∷ [] ≡ verdict_bits (compared x y)
-compared_bits true true = refl
-compared_bits true false = refl
-compared_bits false true = refl
-compared_bits false false = refl
-
 module _ (a : Account) (sheet : Sheetly a) (inputs : List ℕ) (long : length inputs ≡ 2 * a.columns) (bs : Bits inputs) where
   leaf : (i j p : ℕ) → i < a.columns → j < 4 → p ≡ 2 * a.columns + 4 * i + j
       → get_or (signals inputs (leaves Comparator a.columns)) p 0 ≡ value_over (signals inputs (leaves Comparator a.columns)) (comparator_leaf a.columns i j)
   leaf i j p lt h e =
       let q : (4 * i + j) / 4 ≡ i = omega arith in let r : (4 * i + j) % 4 ≡ j = omega arith in
-      leaf_first verdict_product verdict_unit verdict_bits Comparator verdicts verdicts_templated a sheet tt inputs long (4 * i + j) p (omega arith) (omega arith)
+      leaf_first Comparator a sheet tt inputs long (4 * i + j) p (omega arith) (omega arith)
       ∙ ap (value_over (signals inputs (leaves Comparator a.columns)))
       (ap (λ k. comparator_leaf a.columns k ((4 * i + j) % 4)) q ∙ ap (comparator_leaf a.columns i) r)
 
-  input : (k : ℕ) → k < 2 * a.columns → get_or (signals inputs (leaves Comparator a.columns)) k 0 ≡ bit_of (is_set inputs k)
-  input k lt = input_kept inputs (leaves Comparator a.columns) k (omega arith) ∙ set_bit inputs k bs
-
-  less : (i p : ℕ) → i < a.columns → p ≡ 2 * a.columns + 4 * i + 1
-      → get_or (signals inputs (leaves Comparator a.columns)) p 0 ≡ bit_of (not (is_set inputs i) && is_set inputs (a.columns + i))
-  less i p lt e =
-      leaf i 1 p lt (omega arith) e
+  -- bit j of column i
+  bit : (i j : ℕ) → i < a.columns → j < 2
+      → get_or (signals inputs (leaves Comparator a.columns)) (2 * a.columns + 2 * (i * 2 + j) + 1) 0 ≡ get_or (verdict_bits (column a.columns inputs i)) j 0
+  bit i zero lt h =
+      leaf i 1 (2 * a.columns + 2 * (i * 2 + 0) + 1) lt (omega arith) (omega arith)
       ∙ and_value (not (is_set inputs i)) (is_set inputs (a.columns + i)) _ _
-      (leaf i 0 (2 * a.columns + 4 * i) lt (omega arith) (omega arith) ∙ not_value (is_set inputs i) _ (input i (omega arith)))
-      (input (a.columns + i) (omega arith))
-
-  greater : (i p : ℕ) → i < a.columns → p ≡ 2 * a.columns + 4 * i + 3
-      → get_or (signals inputs (leaves Comparator a.columns)) p 0 ≡ bit_of (is_set inputs i && not (is_set inputs (a.columns + i)))
-  greater i p lt e =
-      leaf i 3 p lt (omega arith) e
+      (leaf i 0 (2 * a.columns + 4 * i) lt (omega arith) (omega arith) ∙ not_value (is_set inputs i) _ (input_bit inputs (leaves Comparator a.columns) i bs (omega arith)))
+      (input_bit inputs (leaves Comparator a.columns) (a.columns + i) bs (omega arith))
+      ∙ search rules
+  bit i (suc zero) lt h =
+      leaf i 3 (2 * a.columns + 2 * (i * 2 + 1) + 1) lt (omega arith) (omega arith)
       ∙ and_value (is_set inputs i) (not (is_set inputs (a.columns + i))) _ _
-      (input i (omega arith))
-      (leaf i 2 (2 * a.columns + 4 * i + 2) lt (omega arith) (omega arith) ∙ not_value (is_set inputs (a.columns + i)) _ (input (a.columns + i) (omega arith)))
+      (input_bit inputs (leaves Comparator a.columns) i bs (omega arith))
+      (leaf i 2 (2 * a.columns + 4 * i + 2) lt (omega arith) (omega arith) ∙ not_value (is_set inputs (a.columns + i)) _ (input_bit inputs (leaves Comparator a.columns) (a.columns + i) bs (omega arith)))
+      ∙ search rules
+  bit i (suc (suc j)) lt h = absurd (omega arith)
 
   shows : Shows verdict_bits verdict_unit 2 (signals inputs (leaves Comparator a.columns)) (column_nets Comparator a.columns) (columns a.columns inputs)
-  shows v lt =
-      let l : v < a.columns = omega (arith, columns_length a.columns inputs) in
-      let s : List ℕ = signals inputs (leaves Comparator a.columns) in
-      let x = less v (2 * a.columns + 2 * (v * 2 + 0) + 1) l (omega arith) in
-      let y = greater v (2 * a.columns + 2 * (v * 2 + 1) + 1) l (omega arith) in
-      ap (values s) (nets_made (column_net Comparator a.columns) a.columns 2 v l)
-      ∙ ap (λ z. z ∷ get_or s (2 * a.columns + 2 * (v * 2 + 1) + 1) 0 ∷ []) x
-      ∙ ap (λ z. bit_of (not (is_set inputs v) && is_set inputs (a.columns + v)) ∷ z ∷ []) y
-      ∙ compared_bits (is_set inputs v) (is_set inputs (a.columns + v))
-      ∙ ap verdict_bits (sym (column_at a.columns inputs v l))
+  shows =
+      shows_made verdict_bits verdict_unit (column_net Comparator a.columns) a.columns 2 (signals inputs (leaves Comparator a.columns)) (columns a.columns inputs) (columns_length a.columns inputs)
+      verdict_wide (λ v j lt h. bit v j lt h ∙ ap (λ x. get_or (verdict_bits x) j 0) (sym (column_at a.columns inputs v lt)))
 
   output_is : (k : ℕ) → k < 2 → get_or (outputs_of Comparator a.columns inputs (block_gates Comparator a)) k 0 ≡ ordered a.columns inputs k
   output_is k lt =
       let N : ℕ = a.columns in
       let up : N - 1 + 1 ≡ N = omega (arith, sheet.some) in
-      output_value verdict_product verdict_unit verdict_bits Comparator verdicts verdicts_templated a sheet tt inputs long bs k lt
-      ∙ shown verdict_product verdict_unit verdict_bits Comparator verdicts verdicts_templated a sheet tt inputs long (columns N inputs) (columns_length N inputs) shows (N - 1) k (omega (arith, sheet.some)) lt
+      output_value Comparator a sheet tt inputs long bs k lt
+      ∙ shown Comparator a sheet tt inputs long (columns N inputs) (columns_length N inputs) shows (N - 1) k (omega (arith, sheet.some)) lt
       ∙ ap (λ i. get_or (verdict_bits (fold verdict_product verdict_unit (take i (columns N inputs)))) k 0) up
 
   pub comparator_outputs : outputs_of Comparator a.columns inputs (block_gates Comparator a) ≡ map (ordered a.columns inputs) (range_with_len 0 2)
   comparator_outputs =
-      fill_by_all (ordered a.columns inputs) (outputs_of Comparator a.columns inputs (block_gates Comparator a)) 2 0
-      (outputs_length verdict_product verdict_unit verdict_bits Comparator verdicts verdicts_templated a sheet tt inputs long) output_is
+      outputs_made Comparator a sheet tt inputs long (ordered a.columns inputs) output_is
 
 -- how two numbers compare
 abbrev order : ℕ → ℕ → Verdict
 order x y = cond (ltb x y) Less (cond (ltb y x) Greater Equal)
 
 order_bits : (x y : ℕ) → verdict_bits (order x y) ≡ bit_of (ltb x y) ∷ bit_of (ltb y x) ∷ []
-order_bits x y =
-    ⊎_elim
-    (λ (e : x ≡ y). rw (le-ltb x y (omega arith), le-ltb y x (omega arith)))
-    (⊎_elim
-    (λ (l : x < y). rw (lt-ltb x y l, le-ltb y x (omega arith)))
-    (λ (g : y < x). rw (le-ltb x y (omega arith), lt-ltb y x g)))
-    (cases_order x y)
+order_bits x y = grind (arith, nat_tests)
 
 -- a column more, above numbers below p
 order_more : (x y p : ℕ) (u v : Bool) → x < p → y < p → order (x + p * bit_of u) (y + p * bit_of v) ≡ verdict_product (order x y) (compared u v)
-order_more x y p true true h k =
-    let e : ltb (x + p * 1) (y + p * 1) ≡ ltb x y = grind (arith, nat_tests) in let f : ltb (y + p * 1) (x + p * 1) ≡ ltb y x = grind (arith, nat_tests) in rw (e, f)
-order_more x y p true false h k =
-    rw (le-ltb (x + p * 1) (y + p * 0) (omega arith), lt-ltb (y + p * 0) (x + p * 1) (omega arith))
-order_more x y p false true h k = rw (lt-ltb (x + p * 0) (y + p * 1) (omega arith))
-order_more x y p false false h k =
-    let e : ltb (x + p * 0) (y + p * 0) ≡ ltb x y = grind (arith, nat_tests) in let f : ltb (y + p * 0) (x + p * 0) ≡ ltb y x = grind (arith, nat_tests) in rw (e, f)
+order_more x y p u v h k = grind (arith, nat_tests)
 
 -- the verdict over the first k columns is the order of the numbers up to there
 verdict_is : (n : ℕ) (inputs : List ℕ) (k : ℕ) → k ≤ n

@@ -1,25 +1,23 @@
 -- The Gray decoder: its buffers carry the number behind the code.
-use Rattle.std.proofs.Common.{◌≡◌, ℕ, zero, suc, ◌+◌, ◌-◌, ◌*◌, ◌%◌, ◌<◌, Bool, true, false, List, [], ◌∷◌, map, length, get_or, take, fold, sym, refl, ap, ◌∙◌, arith}
+use Rattle.std.proofs.Common.{◌≡◌, ℕ, zero, suc, ◌+◌, ◌-◌, ◌*◌, ◌%◌, ◌<◌, Bool, true, false, List, map, length, get_or, take, fold, sym, refl, ap, ◌∙◌, arith}
 use lib.Bits.{differ}
 use Rattle.std.specs.List.{range_with_len}
-use Rattle.std.proofs.lemmas.List.FromFn.{length-map-range_with_len, get_or-map-range_with_len, fill_by_all}
-use Rattle.std.proofs.lemmas.List.Elements.{All-drop}
+use Rattle.std.proofs.lemmas.List.FromFn.{length-map-range_with_len, get_or-map-range_with_len}
 use Rattle.std.proofs.lemmas.List.{take_all}
 use Rattle.std.proofs.lemmas.List.Sums.{fold_more}
 use Rattle.account.specs.Account.{Account}
 use Rattle.netlist.specs.Signals.{signals}
 use Rattle.kinds.specs.Template.{bit_of}
 use Rattle.kinds.specs.Parity.{parity_unit, parity_product, parity_bits}
-use Rattle.expansion.specs.Expansion.{Shows, values}
+use Rattle.expansion.specs.Expansion.{Shows}
 use Rattle.meaning.specs.declared.block.Block.TheVariants.{GrayDecoder}
 use Rattle.meaning.specs.Numbers.{value, Bits}
 use Rattle.meaning.specs.Meaning.{Decodes}
 use Rattle.meaning.specs.Layout.{column_net, column_nets, leaves, block_gates, outputs_of}
-use Rattle.meaning.proofs.KindLaws.{parities, parities_templated}
-use Rattle.meaning.proofs.Signals.{is_set, set_bit, signals_bits}
-use Rattle.meaning.proofs.Binary.{bit_from, front_made, nets_made}
+use Rattle.meaning.proofs.Signals.{is_set, set_bit}
+use Rattle.meaning.proofs.Binary.{bit_from, front_made, shows_made}
 use Rattle.meaning.proofs.Gray.{gray, gray_more, differ_of, gray_only}
-use Rattle.meaning.proofs.Wiring.{Sheetly, outputs_length, output_value, shown}
+use Rattle.meaning.proofs.Wiring.{Sheetly, outputs_length, outputs_bits, outputs_made, output_value, shown}
 
 -- column i is bit n - 1 - i of the code
 abbrev column : ℕ → List ℕ → ℕ → Bool
@@ -43,27 +41,26 @@ column_at : (n : ℕ) (inputs : List ℕ) (i : ℕ) → i < n → get_or (column
 column_at n inputs i lt = get_or-map-range_with_len (column n inputs) 0 n i i parity_unit lt (omega arith)
 
 module _ (a : Account) (sheet : Sheetly a) (inputs : List ℕ) (long : length inputs ≡ a.columns) (bs : Bits inputs) where
+  bit : (i j : ℕ) → i < a.columns → j < 1 → get_or inputs (a.columns - 1 - (i * 1 + j)) 0 ≡ get_or (parity_bits (get_or (columns a.columns inputs) i parity_unit)) j 0
+  bit i zero lt h =
+      let at : a.columns - 1 - (i * 1 + 0) ≡ a.columns - 1 - i = omega arith in
+      ap (λ k. get_or inputs k 0) at ∙ set_bit inputs (a.columns - 1 - i) bs ∙ ap bit_of (sym (column_at a.columns inputs i lt))
+  bit i (suc j) lt h = absurd (omega arith)
+
   shows : Shows parity_bits parity_unit 1 (signals inputs (leaves GrayDecoder a.columns)) (column_nets GrayDecoder a.columns) (columns a.columns inputs)
-  shows v lt =
-      let l : v < a.columns = omega (arith, columns_length a.columns inputs) in
-      let at : a.columns - 1 - (v * 1 + 0) ≡ a.columns - 1 - v = omega arith in
-      ap (values inputs) (nets_made (column_net GrayDecoder a.columns) a.columns 1 v l)
-      ∙ ap (λ k. get_or inputs k 0 ∷ []) at
-      ∙ ap (λ z. z ∷ []) (set_bit inputs (a.columns - 1 - v) bs)
-      ∙ ap parity_bits (sym (column_at a.columns inputs v l))
+  shows = shows_made parity_bits parity_unit (column_net GrayDecoder a.columns) a.columns 1 inputs (columns a.columns inputs) (columns_length a.columns inputs) (λ x. refl) bit
 
   output_is : (k : ℕ) → k < a.columns → get_or (outputs_of GrayDecoder a.columns inputs (block_gates GrayDecoder a)) k 0 ≡ decoded a.columns inputs k
   output_is k lt =
       let N : ℕ = a.columns in
       let up : N - 1 - k + 1 ≡ N - k = omega arith in
-      output_value parity_product parity_unit parity_bits GrayDecoder parities parities_templated a sheet tt inputs long bs k lt
-      ∙ shown parity_product parity_unit parity_bits GrayDecoder parities parities_templated a sheet tt inputs long (columns N inputs) (columns_length N inputs) shows (N - 1 - k) 0 (omega arith) (omega arith)
+      output_value GrayDecoder a sheet tt inputs long bs k lt
+      ∙ shown GrayDecoder a sheet tt inputs long (columns N inputs) (columns_length N inputs) shows (N - 1 - k) 0 (omega arith) (omega arith)
       ∙ ap (λ i. bit_of (fold parity_product parity_unit (take i (columns N inputs)))) up
 
   pub gray_outputs : outputs_of GrayDecoder a.columns inputs (block_gates GrayDecoder a) ≡ map (decoded a.columns inputs) (range_with_len 0 a.columns)
   gray_outputs =
-      fill_by_all (decoded a.columns inputs) (outputs_of GrayDecoder a.columns inputs (block_gates GrayDecoder a)) a.columns 0
-      (outputs_length parity_product parity_unit parity_bits GrayDecoder parities parities_templated a sheet tt inputs long) output_is
+      outputs_made GrayDecoder a sheet tt inputs long (decoded a.columns inputs) output_is
 
 -- a bit of the number is that of the code and the number's next bit
 parity_more : (n : ℕ) (inputs : List ℕ) (k : ℕ) → k < n → parity n inputs k ≡ parity_product (parity n inputs (k + 1)) (is_set inputs k)
@@ -88,7 +85,7 @@ code n inputs k zero e = refl
 code n inputs k (suc c) e =
     let v : ℕ = from n inputs (k + 1) c in
     let z : 0 + k ≡ k = omega arith in
-    let small : decoded n inputs k < 2 = elim (parity n inputs k) as (λ t. bit_of t < 2) [ true ↦ omega arith | false ↦ omega arith ] in
+    let small : decoded n inputs k < 2 = grind arith in
     let low : differ (decoded n inputs k) (v % 2) ≡ bit_from inputs 0 k =
     ap (differ (decoded n inputs k)) (lowest n inputs (k + 1) c (omega arith))
     ∙ ap (λ t. differ (bit_of t) (decoded n inputs (k + 1))) (parity_more n inputs k (omega arith))
@@ -104,8 +101,8 @@ gray_means a sheet inputs long bs =
     let all : value inputs ≡ value (map (bit_from inputs 0) (range_with_len 0 n)) = ap value (sym (take_all n inputs (omega arith)) ∙ front_made inputs n bs (omega arith)) in
     let number : gray (value out) ≡ value inputs = ap (λ t. gray (value t)) (gray_outputs a sheet inputs long bs) ∙ code n inputs 0 n (omega arith) ∙ sym all in
     record {
-      wide = outputs_length parity_product parity_unit parity_bits GrayDecoder parities parities_templated a sheet tt inputs long;
-      bits = All-drop (λ x. x < 2) _ (signals inputs (block_gates GrayDecoder a)) (signals_bits inputs (block_gates GrayDecoder a) bs);
+      wide = outputs_length GrayDecoder a sheet tt inputs long;
+      bits = outputs_bits GrayDecoder a sheet tt inputs long bs;
       code = number;
       only = λ b e. gray_only b (value out) (e ∙ sym number);
     }

@@ -1,13 +1,13 @@
 -- The machine: its buffers carry the state after each symbol.
-use Rattle.std.proofs.Common.{◌≡◌, ℕ, zero, suc, ◌+◌, ◌*◌, ◌/◌, ◌%◌, ◌<◌, ◌≤◌, true, false, cond, eqb, List, [], ◌∷◌, map, length, get_or, take, fold, sym, refl, ap, ◌∙◌, arith}
+use Rattle.std.proofs.Common.{◌≡◌, ℕ, zero, suc, ◌+◌, ◌*◌, ◌/◌, ◌%◌, ◌<◌, ◌≤◌, true, false, cond, eqb, List, [], ◌∷◌, map, length, get_or, take, fold, sym, refl, ap, ◌∙◌, arith, rules}
 use Rattle.std.specs.List.{range_with_len}
-use Rattle.std.proofs.lemmas.List.FromFn.{fill_by_all}
-use Rattle.std.proofs.lemmas.List.Elements.{All-nil, All-cons, All-drop}
+use Rattle.std.proofs.lemmas.Bool.Decides.{nat_tests}
+use Rattle.std.proofs.lemmas.Grind.{common_steps}
+use Rattle.std.proofs.lemmas.List.Elements.{All-cons}
 use Rattle.std.proofs.lemmas.List.{length-map, get_or-map, take-map}
 use Rattle.account.specs.Account.{Account}
 use Rattle.netlist.specs.Signals.{value_over, signals}
 use Rattle.kinds.specs.declared.elements.State.{State}
-use Rattle.kinds.specs.declared.elements.State.TheVariants.{S0, S1, S2, S3}
 use Rattle.kinds.specs.declared.elements.Map.{Map}
 use Rattle.kinds.specs.Map.{entry_at, map_unit, map_product, map_bits, low_bit, high_bit}
 use Rattle.kinds.specs.Select.{low_small, high_small}
@@ -17,10 +17,9 @@ use Rattle.meaning.specs.declared.block.Block.TheVariants.{Machine as MachineBlo
 use Rattle.meaning.specs.Numbers.{Bits}
 use Rattle.meaning.specs.Meaning.{state_of, map_of, follow, state_after, Follows}
 use Rattle.meaning.specs.Layout.{symbol_gate, machine_leaf, column_net, column_nets, leaves, block_gates, outputs_of}
-use Rattle.meaning.proofs.KindLaws.{maps, maps_templated}
-use Rattle.meaning.proofs.Signals.{input_kept, small, signals_bits}
+use Rattle.meaning.proofs.Signals.{input_kept, small}
 use Rattle.meaning.proofs.Binary.{shows_made}
-use Rattle.meaning.proofs.Wiring.{Sheetly, leaf_first, outputs_length, output_value, shown}
+use Rattle.meaning.proofs.Wiring.{Sheetly, leaf_first, outputs_length, outputs_bits, outputs_made, output_value, shown}
 
 abbrev columns : Machine → List ℕ → List Map
 columns m inputs = map (map_of m) inputs
@@ -38,30 +37,11 @@ entry_small x xs b =
     All-cons (λ y. y < 2) (low_bit x) (high_bit x ∷ xs) (low_small x) (All-cons (λ y. y < 2) (high_bit x) xs (high_small x) b)
 
 map_small : (x : Map) (j : ℕ) → get_or (map_bits x) j 0 < 2
-map_small x j =
-    let e3 : List ℕ = low_bit x.e3 ∷ high_bit x.e3 ∷ [] in
-    let e2 : List ℕ = low_bit x.e2 ∷ high_bit x.e2 ∷ e3 in
-    let e1 : List ℕ = low_bit x.e1 ∷ high_bit x.e1 ∷ e2 in
-    small (map_bits x) j
-    (entry_small x.e0 e1 (entry_small x.e1 e2 (entry_small x.e2 e3 (entry_small x.e3 [] (All-nil (λ y. y < 2))))))
+map_small x j = small (map_bits x) j (grind (arith, common_steps))
 
 -- the gate of a bit that is x at symbol 0 and y at symbol 1
 symbol_value : (s : List ℕ) (i x y v : ℕ) → x < 2 → y < 2 → v < 2 → get_or s i 0 ≡ v → value_over s (symbol_gate x y i) ≡ cond (eqb v 0) x y
-symbol_value s i zero zero zero h j k e = refl
-symbol_value s i zero zero (suc zero) h j k e = refl
-symbol_value s i (suc zero) (suc zero) zero h j k e = refl
-symbol_value s i (suc zero) (suc zero) (suc zero) h j k e = refl
-symbol_value s i zero (suc zero) zero h j k e = rw e
-symbol_value s i zero (suc zero) (suc zero) h j k e = rw e
-symbol_value s i (suc zero) zero zero h j k e = rw e
-symbol_value s i (suc zero) zero (suc zero) h j k e = rw e
-symbol_value s i (suc (suc x)) y v h j k e = absurd (omega arith)
-symbol_value s i zero (suc (suc y)) v h j k e = absurd (omega arith)
-symbol_value s i (suc zero) (suc (suc y)) v h j k e = absurd (omega arith)
-symbol_value s i zero zero (suc (suc v)) h j k e = absurd (omega arith)
-symbol_value s i zero (suc zero) (suc (suc v)) h j k e = absurd (omega arith)
-symbol_value s i (suc zero) zero (suc (suc v)) h j k e = absurd (omega arith)
-symbol_value s i (suc zero) (suc zero) (suc (suc v)) h j k e = absurd (omega arith)
+symbol_value s i x y v h j k e = grind (arith, nat_tests)
 
 module _ (m : Machine) (starts : m.start ≤ 3) (a : Account) (sheet : Sheetly a) (inputs : List ℕ) (long : length inputs ≡ a.columns) (bs : Bits inputs) where
   columns_length : length (columns m inputs) ≡ a.columns
@@ -73,7 +53,7 @@ module _ (m : Machine) (starts : m.start ≤ 3) (a : Account) (sheet : Sheetly a
       let s : List ℕ = signals inputs (leaves (MachineBlock m) a.columns) in
       let v : ℕ = get_or inputs i 0 in
       let q : (i * 8 + j) / 8 ≡ i = omega arith in let r : (i * 8 + j) % 8 ≡ j = omega arith in
-      leaf_first map_product map_unit map_bits (MachineBlock m) maps maps_templated a sheet starts inputs long (i * 8 + j) (a.columns + (i * 8 + j)) (omega arith) refl
+      leaf_first (MachineBlock m) a sheet starts inputs long (i * 8 + j) (a.columns + (i * 8 + j)) (omega arith) refl
       ∙ ap (value_over s) (ap (λ k. machine_leaf m k ((i * 8 + j) % 8)) q ∙ ap (machine_leaf m i) r)
       ∙ symbol_value s i (get_or (map_bits m.zero) j 0) (get_or (map_bits m.one) j 0) v (map_small m.zero j) (map_small m.one j) (small inputs i bs)
       (input_kept inputs (leaves (MachineBlock m) a.columns) i (omega arith))
@@ -87,26 +67,19 @@ module _ (m : Machine) (starts : m.start ≤ 3) (a : Account) (sheet : Sheetly a
 
   output_is : (k : ℕ) → k < 2 * a.columns → get_or (outputs_of (MachineBlock m) a.columns inputs (block_gates (MachineBlock m) a)) k 0 ≡ followed m inputs k
   output_is k lt =
-      output_value map_product map_unit map_bits (MachineBlock m) maps maps_templated a sheet starts inputs long bs k lt
-      ∙ shown map_product map_unit map_bits (MachineBlock m) maps maps_templated a sheet starts inputs long (columns m inputs) columns_length shows
+      output_value (MachineBlock m) a sheet starts inputs long bs k lt
+      ∙ shown (MachineBlock m) a sheet starts inputs long (columns m inputs) columns_length shows
       (k / 2) (2 * m.start + k % 2) (omega arith) (omega arith)
 
   pub machine_outputs : outputs_of (MachineBlock m) a.columns inputs (block_gates (MachineBlock m) a) ≡ map (followed m inputs) (range_with_len 0 (2 * a.columns))
   machine_outputs =
-      fill_by_all (followed m inputs) (outputs_of (MachineBlock m) a.columns inputs (block_gates (MachineBlock m) a)) (2 * a.columns) 0
-      (outputs_length map_product map_unit map_bits (MachineBlock m) maps maps_templated a sheet starts inputs long) output_is
+      outputs_made (MachineBlock m) a sheet starts inputs long (followed m inputs) output_is
 
 entry_product : (l h : Map) (s : State) → entry_at (map_product l h) s ≡ entry_at h (entry_at l s)
-entry_product l h S0 = refl
-entry_product l h S1 = refl
-entry_product l h S2 = refl
-entry_product l h S3 = refl
+entry_product l h s = search rules
 
 entry_unit : (s : State) → entry_at map_unit s ≡ s
-entry_unit S0 = refl
-entry_unit S1 = refl
-entry_unit S2 = refl
-entry_unit S3 = refl
+entry_unit s = search rules
 
 -- the product's entry is the state to which its maps lead one after another
 leads : (m : Machine) (f : Map) (s : State) (xs : List ℕ) → entry_at (fold map_product f (map (map_of m) xs)) s ≡ fold (follow m) (entry_at f s) xs
@@ -137,8 +110,8 @@ machine_means m starts a sheet inputs long bs =
     ∙ ap (λ k. get_or (map_bits (product m inputs k)) (2 * m.start + (2 * i + j) % 2) 0) q
     ∙ ap (λ k. get_or (map_bits (product m inputs i)) (2 * m.start + k) 0) r in
     record {
-      wide = outputs_length map_product map_unit map_bits (MachineBlock m) maps maps_templated a sheet starts inputs long;
-      bits = All-drop (λ x. x < 2) _ (signals inputs (block_gates (MachineBlock m) a)) (signals_bits inputs (block_gates (MachineBlock m) a) bs);
+      wide = outputs_length (MachineBlock m) a sheet starts inputs long;
+      bits = outputs_bits (MachineBlock m) a sheet starts inputs long bs;
       states = λ i lt.
           let both = entry_bits (product m inputs i) m.start starts in
           let z : 2 * i ≡ 2 * i + 0 = omega arith in

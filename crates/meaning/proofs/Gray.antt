@@ -1,10 +1,10 @@
 -- Gray codes: a number's code by its lowest bit and the others, and that no other number has it.
-use Rattle.std.proofs.Common.{◌≡◌, ℕ, zero, suc, ◌+◌, ◌*◌, ◌/◌, ◌%◌, ◌^◌, ◌<◌, ◌≤◌, Bool, true, false, eqb, sym, refl, ap, ◌∙◌, arith, pow_mono}
+use Rattle.std.proofs.Common.{◌≡◌, ℕ, zero, suc, ◌+◌, ◌*◌, ◌/◌, ◌%◌, ◌^◌, ◌<◌, ◌≤◌, Bool, sym, ap, ◌∙◌, arith, pow_mono}
 use native.Mathlib.Nat.{pow-succ'}
+use Rattle.std.proofs.lemmas.Bool.Decides.{nat_tests}
 use lib.Bits.{bit_xor, xor_step, differ}
 use Rattle.kinds.specs.Template.{bit_of}
 use Rattle.kinds.specs.Parity.{parity_product}
-use Rattle.meaning.proofs.Signals.{bit_is}
 
 abbrev pub gray : ℕ → ℕ
 gray v = bit_xor v (v / 2)
@@ -19,31 +19,13 @@ gray_more x v h =
     ∙ ap (λ n. gray v * 2 + differ n (v % 2)) low
 
 pub differ_of : (p g : Bool) → differ (bit_of (parity_product p g)) (bit_of p) ≡ bit_of g
-differ_of true true = refl
-differ_of true false = refl
-differ_of false true = refl
-differ_of false false = refl
-
-differ_back : (x p : Bool) → differ (differ (bit_of x) (bit_of p)) (bit_of p) ≡ bit_of x
-differ_back true true = refl
-differ_back true false = refl
-differ_back false true = refl
-differ_back false false = refl
-
-differ_bits : (x p : Bool) → differ (bit_of x) (bit_of p) < 2
-differ_bits true true = omega arith
-differ_bits true false = omega arith
-differ_bits false true = omega arith
-differ_bits false false = omega arith
+differ_of p g = grind arith
 
 differ_small : (x p : ℕ) → x < 2 → p < 2 → differ x p < 2
-differ_small x p h k = rw (bit_is x h, bit_is p k) (differ_bits (eqb x 1) (eqb p 1))
+differ_small x p h k = grind (arith, nat_tests)
 
 differ_only : (p x y : ℕ) → x < 2 → y < 2 → p < 2 → differ x p ≡ differ y p → x ≡ y
-differ_only p x y h j k e =
-    let back : (z : ℕ) → z < 2 → differ (differ z p) p ≡ z =
-    λ z l. rw (bit_is z l, bit_is p k) (differ_back (eqb z 1) (eqb p 1)) in
-    sym (back x h) ∙ ap (λ t. differ t p) e ∙ back y j
+differ_only p x y h j k e = grind (arith, nat_tests)
 
 below_only : (k c d : ℕ) → c < 2 ^ k → d < 2 ^ k → gray c ≡ gray d → c ≡ d
 below_only zero c d h j e = omega arith

@@ -1,5 +1,5 @@
 -- The rules that each block's own gates keep: they are good, and what they read stands before them.
-use Rattle.std.proofs.Common.{◌≡◌, ℕ, ◌+◌, ◌-◌, ◌*◌, ◌/◌, ◌%◌, ◌<◌, ◌≤◌, Bool, true, false, cond, eqb, refl, arith}
+use Rattle.std.proofs.Common.{◌≡◌, ℕ, ◌+◌, ◌-◌, ◌*◌, ◌/◌, ◌%◌, ◌<◌, ◌≤◌, Bool, true, arith}
 use Rattle.std.proofs.lemmas.Bool.Decides.{nat_tests}
 use Rattle.netlist.specs.Gates.{good, constant_gate, one_gate, two_gate}
 use Rattle.meaning.specs.declared.block.Block.{Block}
@@ -31,27 +31,22 @@ good_two s t a b h i j = grind (arith, nat_tests)
 
 good_constant : (s : ℕ) (v : Bool) → good s (constant_gate v) ≡ true
 unfolding good
-good_constant s true = refl
-good_constant s false = refl
+good_constant s v = grind (arith, nat_tests)
 
 pub good_buffer : (s a : ℕ) → a < s → good s (one_gate 2 a) ≡ true
 good_buffer s a h = good_one s 2 a (omega arith) h
 
 adder_leaf_lem : (s n i j : ℕ) → n + i < s → good s (adder_leaf n i j) ≡ true
-adder_leaf_lem s n i j h =
-    elim (eqb j 0) as (λ t. good s (cond t (two_gate 8 i (n + i)) (two_gate 6 i (n + i))) ≡ true)
-    [ true ↦ good_two s 8 i (n + i) (omega arith) (omega arith) h | false ↦ good_two s 6 i (n + i) (omega arith) (omega arith) h ]
+unfolding good
+adder_leaf_lem s n i j h = grind (arith, nat_tests)
 
 comparator_leaf_lem : (s n i j : ℕ) → i < n → s ≡ 2 * n + 4 * i + j → j < 4 → good s (comparator_leaf n i j) ≡ true
 unfolding good
 comparator_leaf_lem s n i j h e l = grind (arith, nat_tests)
 
 symbol_leaf : (s x y i : ℕ) → i < s → good s (symbol_gate x y i) ≡ true
-symbol_leaf s x y i h =
-    elim (eqb x y) as (λ t. good s (cond t (constant_gate (eqb y 1)) (one_gate (cond (eqb y 1) 2 1) i)) ≡ true) [
-      | true ↦ good_constant s (eqb y 1)
-      | false ↦ elim (eqb y 1) as (λ t. good s (one_gate (cond t 2 1) i) ≡ true) [ true ↦ good_one s 2 i (omega arith) h | false ↦ good_one s 1 i (omega arith) h ]
-    ]
+unfolding good
+symbol_leaf s x y i h = grind (arith, nat_tests)
 
 pub keeps : (b : Block) (n : ℕ) → 1 ≤ n → Starts b → Keeps b n
 keeps Adder n h s = record {

@@ -1,8 +1,10 @@
 -- What the parts of a netlist of good gates carry, read off the signals at its end.
-use Rattle.std.proofs.Common.{◌≡◌, ℕ, zero, suc, ◌+◌, ◌<◌, Bool, true, false, not, ◌&&◌, eqb, List, [], ◌∷◌, ◌++◌, map, length, get_or, sym, refl, ap, ◌∙◌, arith}
+use Rattle.std.proofs.Common.{◌≡◌, ℕ, zero, suc, ◌+◌, ◌<◌, Bool, true, not, ◌&&◌, eqb, List, [], ◌∷◌, ◌++◌, map, length, get_or, sym, refl, ap, ◌∙◌, arith}
 use Rattle.std.specs.List.{range_with_len}
 use Rattle.std.proofs.lemmas.List.FromFn.{length-map-range_with_len, get_or-map-range_with_len}
-use Rattle.std.proofs.lemmas.List.Elements.{All-head, All-tail, All-push}
+use Rattle.std.proofs.lemmas.List.Elements.{All-get_or, All-push}
+use Rattle.std.proofs.lemmas.Bool.Decides.{nat_tests}
+use Rattle.std.proofs.lemmas.Grind.{common_steps}
 use Rattle.std.proofs.lemmas.List.{length-append, get_or_append_left, get_or-append-add}
 use Rattle.netlist.specs.declared.gate.Gate.{Gate}
 use Rattle.netlist.specs.Gates.{good, good_from, zero_gate, row_value, not_table, buffer_table, and_table, xor_table}
@@ -60,9 +62,7 @@ signals_bits inputs [] b = b
 signals_bits inputs (g ∷ gs) b = signals_bits (inputs ++ value_over inputs g ∷ []) gs (All-push (λ x. x < 2) inputs (value_over inputs g) b (omega arith))
 
 pub small : (xs : List ℕ) (i : ℕ) → Bits xs → get_or xs i 0 < 2
-small [] i b = omega arith
-small (x ∷ xs) zero b = All-head (λ y. y < 2) x xs b
-small (x ∷ xs) (suc i) b = small xs i (All-tail (λ y. y < 2) x xs b)
+small xs i b = grind (arith, common_steps, All-get_or (λ x. x < 2) xs i 0)
 
 pub signal_small : (inputs : List ℕ) (gs : List Gate) (i : ℕ) → Bits inputs → get_or (signals inputs gs) i 0 < 2
 signal_small inputs gs i b = small (signals inputs gs) i (signals_bits inputs gs b)
@@ -72,40 +72,24 @@ abbrev pub is_set : List ℕ → ℕ → Bool
 is_set xs i = eqb (get_or xs i 0) 1
 
 pub bit_is : (x : ℕ) → x < 2 → x ≡ bit_of (eqb x 1)
-bit_is zero h = refl
-bit_is (suc zero) h = refl
-bit_is (suc (suc x)) h = absurd (omega arith)
+bit_is x h = grind (arith, nat_tests)
 
 pub set_bit : (xs : List ℕ) (i : ℕ) → Bits xs → get_or xs i 0 ≡ bit_of (is_set xs i)
 set_bit xs i b = bit_is (get_or xs i 0) (small xs i b)
 
+-- an input among the signals
+pub input_bit : (inputs : List ℕ) (gs : List Gate) (k : ℕ) → Bits inputs → k < length inputs → get_or (signals inputs gs) k 0 ≡ bit_of (is_set inputs k)
+input_bit inputs gs k b lt = input_kept inputs gs k lt ∙ set_bit inputs k b
+
 -- the usual gates, on bits
 pub pass_value : (x : ℕ) → x < 2 → row_value 1 buffer_table x 0 ≡ x
-pass_value zero h = refl
-pass_value (suc zero) h = refl
-pass_value (suc (suc x)) h = absurd (omega arith)
+pass_value x h = grind (arith, nat_tests)
 
 pub not_value : (a : Bool) (x : ℕ) → x ≡ bit_of a → row_value 1 not_table x 0 ≡ bit_of (not a)
-not_value a x e = ap (λ z. row_value 1 not_table z 0) e ∙ table a
-  where
-    table : (a : Bool) → row_value 1 not_table (bit_of a) 0 ≡ bit_of (not a)
-    table true = refl
-    table false = refl
+not_value a x e = grind (arith, nat_tests)
 
 pub and_value : (a b : Bool) (x y : ℕ) → x ≡ bit_of a → y ≡ bit_of b → row_value 2 and_table x y ≡ bit_of (a && b)
-and_value a b x y e f = ap (λ z. row_value 2 and_table z y) e ∙ ap (row_value 2 and_table (bit_of a)) f ∙ table a b
-  where
-    table : (a b : Bool) → row_value 2 and_table (bit_of a) (bit_of b) ≡ bit_of (a && b)
-    table true true = refl
-    table true false = refl
-    table false true = refl
-    table false false = refl
+and_value a b x y e f = grind (arith, nat_tests)
 
 pub xor_value : (a b : Bool) (x y : ℕ) → x ≡ bit_of a → y ≡ bit_of b → row_value 2 xor_table x y ≡ bit_of (parity_product a b)
-xor_value a b x y e f = ap (λ z. row_value 2 xor_table z y) e ∙ ap (row_value 2 xor_table (bit_of a)) f ∙ table a b
-  where
-    table : (a b : Bool) → row_value 2 xor_table (bit_of a) (bit_of b) ≡ bit_of (parity_product a b)
-    table true true = refl
-    table true false = refl
-    table false true = refl
-    table false false = refl
+xor_value a b x y e f = grind (arith, nat_tests)

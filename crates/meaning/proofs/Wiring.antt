@@ -1,7 +1,8 @@
 -- The gates of any block on any covered sheet: they are good, its buffers pass their signals on, and its output nets show the products.
-use Rattle.std.proofs.Common.{◌≡◌, ℕ, ◌+◌, ◌-◌, ◌*◌, ◌<◌, ◌≤◌, List, [], ◌∷◌, ◌++◌, length, get_or, take, drop, Some, fold, All, unwrap_or, sym, refl, ap, ◌∙◌, subst, add-mul, arith}
-use Rattle.std.proofs.lemmas.List.FromFn.{length-map-range_with_len, get_or-map-range_with_len}
-use Rattle.std.proofs.lemmas.List.Elements.{All-from_get_or, All-get_or}
+use Rattle.std.proofs.Common.{◌≡◌, ℕ, ◌+◌, ◌-◌, ◌*◌, ◌<◌, ◌≤◌, List, [], ◌∷◌, ◌++◌, map, length, get_or, take, drop, Some, fold, All, unwrap_or, sym, ap, ◌∙◌, subst, add-mul, arith}
+use Rattle.std.specs.List.{range_with_len}
+use Rattle.std.proofs.lemmas.List.FromFn.{length-map-range_with_len, get_or-map-range_with_len, fill_by_all}
+use Rattle.std.proofs.lemmas.List.Elements.{All-from_get_or, All-get_or, All-drop}
 use Rattle.std.proofs.lemmas.List.{append-nil, append_assoc, length-append, length-map, length-drop, take_all, get_or-take, get_or-drop, get_or-map}
 use Rattle.account.specs.Words.{Pair, Ordered}
 use Rattle.account.specs.Account.{Account, nodes, word_of, output_of, Covered}
@@ -14,16 +15,16 @@ use Rattle.netlist.proofs.Steps.{length_signals}
 use Rattle.kinds.specs.declared.template.TemplateGate.{TemplateGate}
 use Rattle.kinds.specs.declared.template.Pin.{Pin}
 use Rattle.scan.specs.Values.{over}
-use Rattle.scan.proofs.Products.{Monoid}
 use Rattle.scan.proofs.Outputs.{some_of, at_outputs}
 use Rattle.expansion.specs.Expansion.{nets_of, nets_for, net, appended, wired, column_nets as columnNetsOf, values, Shows}
 use Rattle.expansion.proofs.Appending.{length_appended}
-use Rattle.expansion.proofs.Showing.{Templated, computes, row_in, length_nets}
+use Rattle.expansion.proofs.Showing.{computes, row_in, length_nets}
 use Rattle.expansion.proofs.Keeping.{stand_all}
 use Rattle.meaning.specs.declared.block.Block.{Block}
 use Rattle.meaning.specs.Numbers.{Bits}
 use Rattle.meaning.specs.Layout.{template, results, width, input_count, leaf_count, end_count, output_count, leaf_gate, column_net, end_gate, output_net, leaves, column_nets, base, join_gates, node_nets, net_at, first_end, end_gates, buffers, buffer, block_gates, gate_count, outputs_of}
-use Rattle.meaning.proofs.Signals.{good_made, part_value, front_kept, signal_small, pass_value}
+use Rattle.meaning.proofs.Signals.{good_made, part_value, front_kept, signal_small, signals_bits, pass_value}
+use Rattle.meaning.proofs.KindLaws.{KindOf, kind_of}
 use Rattle.meaning.proofs.Rules.{Starts, Keeps, keeps, good_buffer}
 
 length_wired : (t : List TemplateGate) (rs : List Pin) (start : ℕ) (nets : List ℕ) (ps : List Pair) → length (wired t rs start nets ps) ≡ length nets + length ps * length rs
@@ -39,8 +40,10 @@ pub record Sheetly (a : Account) : Type 0 where
   pub ordered : Ordered a.columns a.joins
   pub covered : Covered a
 
-module _ {E : Type 0} (op : E → E → E) (unit : E) (bits : E → List ℕ) (b : Block) (laws : Monoid op unit) (fits : Templated op bits (template b) (results b))
-    (a : Account) (sheet : Sheetly a) (starts : Starts b) where
+module _ (b : Block) (a : Account) (sheet : Sheetly a) (starts : Starts b) where
+  abbrev kind : KindOf (template b) (results b)
+  kind = kind_of b
+
   rules : Keeps b a.columns
   rules = keeps b a.columns sheet.some starts
 
@@ -64,7 +67,7 @@ module _ {E : Type 0} (op : E → E → E) (unit : E) (bits : E → List ℕ) (b
   joins_length = length_appended (template b) (results b) (base b a.columns) (column_nets b a.columns) a.joins
 
   stand : (good_from (base b a.columns) (join_gates b a) ≡ length (join_gates b a)) × All (λ k. k < first_end b a) (node_nets b a)
-  stand = stand_all op bits (template b) (results b) fits (base b a.columns) a.columns (column_nets b a.columns) a.joins column_length columns_under sheet.ordered
+  stand = stand_all kind.op kind.bits (template b) (results b) kind.fits (base b a.columns) a.columns (column_nets b a.columns) a.joins column_length columns_under sheet.ordered
 
   nets_length : length (node_nets b a) ≡ nodes a * width b
   nets_length =
@@ -141,14 +144,13 @@ module _ {E : Type 0} (op : E → E → E) (unit : E) (bits : E → List ℕ) (b
     good_here : good_from (length inputs) (block_gates b a) ≡ length (block_gates b a)
     good_here = ap (λ m. good_from m (block_gates b a)) long ∙ block_good
 
-    -- leaf gate k, among all signals and among those of the leaf gates alone
-    pub leaf_value : (k p : ℕ) → k < leaf_count b a.columns → p ≡ input_count b a.columns + k
-        → get_or (signals inputs (block_gates b a)) p 0 ≡ value_over (signals inputs (block_gates b a)) (leaf_gate b a.columns k)
+    -- the signals of the inputs and the leaf gates are the first of all
+    pub start_kept : (p : ℕ) → p < base b a.columns → get_or (signals inputs (block_gates b a)) p 0 ≡ get_or (signals inputs (leaves b a.columns)) p 0
     unfolding block_gates
-    leaf_value k p lt e =
-        part_value inputs (block_gates b a) [] (join_gates b a ++ (end_gates b a (node_nets b a) ++ buffers b a (node_nets b a)))
-        (leaf_gate b a.columns) (leaf_count b a.columns) k p refl good_here lt (omega arith)
+    start_kept p lt =
+        front_kept inputs (leaves b a.columns) (join_gates b a ++ (end_gates b a (node_nets b a) ++ buffers b a (node_nets b a))) p (omega (arith, leaf_length))
 
+    -- leaf gate k
     pub leaf_first : (k p : ℕ) → k < leaf_count b a.columns → p ≡ input_count b a.columns + k
         → get_or (signals inputs (leaves b a.columns)) p 0 ≡ value_over (signals inputs (leaves b a.columns)) (leaf_gate b a.columns k)
     leaf_first k p lt e =
@@ -169,6 +171,14 @@ module _ {E : Type 0} (op : E → E → E) (unit : E) (bits : E → List ℕ) (b
         length-drop (length inputs + length (block_gates b a) - output_count b a.columns) (signals inputs (block_gates b a))
         ∙ omega (arith, length_signals inputs (block_gates b a), block_length)
 
+    pub outputs_bits : Bits inputs → Bits (outputs_of b a.columns inputs (block_gates b a))
+    outputs_bits bs = All-drop (λ x. x < 2) _ (signals inputs (block_gates b a)) (signals_bits inputs (block_gates b a) bs)
+
+    -- the outputs, where each is told by its number
+    pub outputs_made : (f : ℕ → ℕ) → ((k : ℕ) → k < output_count b a.columns → get_or (outputs_of b a.columns inputs (block_gates b a)) k 0 ≡ f k)
+        → outputs_of b a.columns inputs (block_gates b a) ≡ map f (range_with_len 0 (output_count b a.columns))
+    outputs_made f each = fill_by_all f (outputs_of b a.columns inputs (block_gates b a)) (output_count b a.columns) 0 outputs_length each
+
     -- a buffer passes its signal on
     pub output_value : Bits inputs → (k : ℕ) → k < output_count b a.columns
         → get_or (outputs_of b a.columns inputs (block_gates b a)) k 0
@@ -188,9 +198,9 @@ module _ {E : Type 0} (op : E → E → E) (unit : E) (bits : E → List ℕ) (b
         (omega (arith, block_length, length-append L (J ++ E), length-append J E, leaf_length, joins_length, ends_length))
         ∙ pass_value _ (signal_small inputs (block_gates b a) (output_net b a.columns (net_at (width b) a (node_nets b a)) (first_end b a) k) bs)
 
-    module _ (xs : List E) (wide : length xs ≡ a.columns) (shows : Shows bits unit (width b) (signals inputs (leaves b a.columns)) (column_nets b a.columns) xs) where
+    module _ (xs : List kind.Element) (wide : length xs ≡ a.columns) (shows : Shows kind.bits kind.unit (width b) (signals inputs (leaves b a.columns)) (column_nets b a.columns) xs) where
       words_shown : (v : ℕ) → v < nodes a
-          → values (signals inputs (leaves b a.columns ++ join_gates b a)) (nets_of (width b) (node_nets b a) v) ≡ bits (over op unit xs (word_of a v))
+          → values (signals inputs (leaves b a.columns ++ join_gates b a)) (nets_of (width b) (node_nets b a) v) ≡ kind.bits (over kind.op kind.unit xs (word_of a v))
       words_shown =
           let L : List Gate = leaves b a.columns in let C : List ℕ = column_nets b a.columns in
           let m : ℕ = input_count b a.columns in
@@ -198,24 +208,24 @@ module _ {E : Type 0} (op : E → E → E) (unit : E) (bits : E → List ℕ) (b
           let cols : columnNetsOf (results b) a C ≡ C = take_all (a.columns * width b) C (omega (arith, column_length)) in
           let P : ℕ → List ℕ → Type 0 = λ z c. (v : ℕ) → v < nodes a
           → values (signals inputs (L ++ appended (template b) (results b) z c a.joins)) (nets_of (width b) (wired (template b) (results b) z c a.joins) v)
-          ≡ bits (over op unit xs (word_of a v)) in
+          ≡ kind.bits (over kind.op kind.unit xs (word_of a v)) in
           let under : All (λ k. k < m + length L) (columnNetsOf (results b) a C) =
           subst (λ c. All (λ k. k < m + length L) c) (sym cols) (subst (λ n. All (λ k. k < n) C) (sym start) columns_under) in
           let main : P (m + length L) (columnNetsOf (results b) a C) =
-          (computes op unit bits (template b) (results b) laws fits a m L C sheet.ordered (omega (arith, column_length)) under inputs xs
+          (computes kind.op kind.unit kind.bits (template b) (results b) kind.laws kind.fits a m L C sheet.ordered (omega (arith, column_length)) under inputs xs
           (record { long = long; wide = wide; shows = shows })).1 in
           subst (λ c. P (base b a.columns) c) cols (subst (λ z. P z (columnNetsOf (results b) a C)) start main)
 
       -- output i shows the product of columns 0 to i
       pub shown : (i j : ℕ) → i < a.columns → j < width b
-          → get_or (signals inputs (block_gates b a)) (net_at (width b) a (node_nets b a) i j) 0 ≡ get_or (bits (fold op unit (take (i + 1) xs))) j 0
+          → get_or (signals inputs (block_gates b a)) (net_at (width b) a (node_nets b a) i j) 0 ≡ get_or (kind.bits (fold kind.op kind.unit (take (i + 1) xs))) j 0
       unfolding block_gates
       shown i j lt small =
           let L : List Gate = leaves b a.columns in let J : List Gate = join_gates b a in
           let R : List Gate = end_gates b a (node_nets b a) ++ buffers b a (node_nets b a) in
           let s : List ℕ = signals inputs (L ++ J) in
           let N : List ℕ = node_nets b a in let w : ℕ = width b in
-          let o = at_outputs op unit a xs (λ v x. values s (nets_of w N v) ≡ bits x) sheet.covered wide words_shown i lt in
+          let o = at_outputs kind.op kind.unit a xs (λ v x. values s (nets_of w N v) ≡ kind.bits x) sheet.covered wide words_shown i lt in
           let v : ℕ = o.0 in
           let room : v * w + w ≤ length N = in_nets i v j o.1.0 small in
           let at : net_at w a N i j ≡ get_or (nets_of w N v) j 0 =

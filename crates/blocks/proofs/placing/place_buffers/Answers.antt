@@ -1,13 +1,12 @@
-use Rattle.std.proofs.Common.{◌≡◌, ◌+◌, ap, ◌∙◌, arith}
+use Rattle.std.proofs.Common.{◌≡◌, arith, rules}
 use Rattle.sheet.specs.Closing.{account_of}
-use Rattle.meaning.specs.Layout.{width, net_at, output_count, output_net, buffer}
-use Rattle.blocks.proofs.Writing.{written_more}
+use Rattle.meaning.specs.Layout.{width, net_at, first_end, output_count, output_net, buffer}
+use Rattle.blocks.proofs.Writing.{filled}
 use Rattle.blocks.proofs.placing.place_buffers.Goals as goal
 
-pub loop-k-preserved : goal.loop-k-preserved
-loop-k-preserved c =
-    let k = c.loop-k.k in let gate = c.one.result in
-    let a = account_of c.args.closed.now in
-    let end : c.output_count-k-end.result ≡ output_count c.args.block a.columns = c.output_count-k-end.ensures ∙ ap (output_count c.args.block) c.columns.ensures.0 in
-    written_more (λ j. buffer (output_net c.args.block a.columns (net_at (width c.args.block) a c.args.nets.now) c.args.first j)) c.args.gates.now c.loop-k.gates c.args.at k (c.args.at + k) gate gate
-    (omega arith) (omega arith) (c.one.ensures ∙ ap buffer c.output_net-signal.ensures) c.loop-k.invariant
+pub returns : goal.returns
+returns c =
+    let w = c.args.wired.now in let a = account_of w.closed.now in
+    let all : c.output_count-count.result ≡ output_count w.layout.block a.columns = cc in
+    filled (λ k. buffer (output_net w.layout.block a.columns (net_at (width w.layout.block) a w.nets.now) (first_end w.layout.block a) k)) c.args.gates.now _ c.args.at _ _ c.fill_from.auto.slots (omega arith) (omega arith)
+    (λ k d h. let e = c.fill_from.ensures k d h in search rules)

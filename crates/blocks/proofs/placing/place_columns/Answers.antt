@@ -1,10 +1,9 @@
-use Rattle.std.proofs.Common.{◌≡◌, ℕ, ◌*◌, ap, arith}
-use Rattle.meaning.specs.Layout.{width, column_net}
-use Rattle.blocks.proofs.Writing.{written_more}
+use Rattle.std.proofs.Common.{◌*◌, ap, arith, rules}
+use Rattle.meaning.specs.Layout.{column_net}
+use Rattle.blocks.proofs.Writing.{filled}
 use Rattle.blocks.proofs.placing.place_columns.Goals as goal
 
-pub loop-k-preserved : goal.loop-k-preserved
-loop-k-preserved c =
-    let k = c.loop-k.k in let net = c.column_net.result in
-    let end : c.args.n * c.width.result ≡ c.args.n * width c.args.block = ap (λ (w : ℕ). c.args.n * w) c.width.ensures in
-    written_more (column_net c.args.block c.args.n) c.args.nets.now c.loop-k.nets 0 k k net net (omega arith) (omega arith) c.column_net.ensures c.loop-k.invariant
+pub returns : goal.returns
+returns c =
+    filled (column_net c.args.layout.block c.args.layout.columns) c.args.nets.now _ 0 _ _ c.fill_from.auto.slots (ap (λ w. c.args.layout.columns * w) c.width.ensures) (omega arith)
+    (λ k d h. let w = c.fill_from.ensures k d h in search rules)

@@ -1,13 +1,12 @@
-use Rattle.std.proofs.Common.{◌≡◌, ◌+◌, ap, ◌∙◌, arith}
+use Rattle.std.proofs.Common.{◌≡◌, arith, rules}
 use Rattle.sheet.specs.Closing.{account_of}
 use Rattle.meaning.specs.Layout.{width, net_at, end_count, end_gate}
-use Rattle.blocks.proofs.Writing.{written_more}
+use Rattle.blocks.proofs.Writing.{filled}
 use Rattle.blocks.proofs.placing.place_ends.Goals as goal
 
-pub loop-k-preserved : goal.loop-k-preserved
-loop-k-preserved c =
-    let k = c.loop-k.k in let gate = c.end_gate.result in
-    let a = account_of c.args.closed.now in
-    let end : c.end_count-k-end.result ≡ end_count c.args.block a.columns = c.end_count-k-end.ensures ∙ ap (end_count c.args.block) c.columns.ensures.0 in
-    written_more (end_gate c.args.block a.columns (net_at (width c.args.block) a c.args.nets.now)) c.args.gates.now c.loop-k.gates c.args.at k (c.args.at + k) gate gate
-    (omega arith) (omega arith) c.end_gate.ensures c.loop-k.invariant
+pub returns : goal.returns
+returns c =
+    let w = c.args.wired.now in let a = account_of w.closed.now in
+    let all : c.end_count-count.result ≡ end_count w.layout.block a.columns = cc in
+    filled (end_gate w.layout.block a.columns (net_at (width w.layout.block) a w.nets.now)) c.args.gates.now _ c.args.at _ _ c.fill_from.auto.slots (omega arith) (omega arith)
+    (λ k d h. let e = c.fill_from.ensures k d h in search rules)
