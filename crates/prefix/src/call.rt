@@ -5,13 +5,21 @@ use script::call::Call;
 use std::fmt;
 
 // Why a line is no call.
-#[derive(Clone, Copy)]
+#[derive(Clone, Copy, Debug, PartialEq, Eq)]
 pub enum NoCall<'a> {
     Unknown(&'a str),
     Form(&'static str),
-    NotDigits(&'a str),
-    TooLarge(&'a str),
+    NoNumber(NoNumber<'a>),
     NoFamily(&'a str),
+    NoKind(&'a str),
+    // A word that is no element, and how an element is written.
+    NoElement(&'a str, &'static str),
+}
+
+impl<'a> From<NoNumber<'a>> for NoCall<'a> {
+    fn from(no: NoNumber<'a>) -> NoCall<'a> {
+        NoCall::NoNumber(no)
+    }
 }
 
 impl fmt::Display for NoCall<'_> {
@@ -22,38 +30,28 @@ impl fmt::Display for NoCall<'_> {
                 "{word:?} is no call: write open, join, undo, lay, output, close, reopen, measure or run"
             ),
             NoCall::Form(form) => write!(f, "this is no call: write {form}"),
-            NoCall::NotDigits(word) => write!(f, "{word:?} is no number: write decimal digits"),
-            NoCall::TooLarge(word) => write!(
-                f,
-                "{word} is too large: write a number below 18446744073709551616"
-            ),
+            NoCall::NoNumber(no) => write!(f, "{no}"),
             NoCall::NoFamily(word) => write!(
                 f,
                 "{word:?} is no family: write sklansky, kogge-stone, brent-kung, han-carlson or a number"
             ),
+            NoCall::NoKind(word) => write!(
+                f,
+                "{word:?} is no kind: write carry, parity, verdict or map"
+            ),
+            NoCall::NoElement(word, form) => write!(f, "{word:?} is no element: {form}"),
         }
     }
 }
 
-fn number(word: &str) -> Result<usize, NoCall<'_>> {
-    match words::number(word) {
-        Ok(value) => Ok(value),
-        Err(NoNumber::NotDigits) => Err(NoCall::NotDigits(word)),
-        Err(NoNumber::TooLarge) => Err(NoCall::TooLarge(word)),
-    }
-}
-
+// The family of a name; no FromStr of Family, since the names are the program's.
 fn named(word: &str) -> Option<Family> {
-    if word == "sklansky" {
-        Some(Family::Sklansky)
-    } else if word == "kogge-stone" {
-        Some(Family::KoggeStone)
-    } else if word == "brent-kung" {
-        Some(Family::BrentKung)
-    } else if word == "han-carlson" {
-        Some(Family::HanCarlson)
-    } else {
-        None
+    match word {
+        "sklansky" => Some(Family::Sklansky),
+        "kogge-stone" => Some(Family::KoggeStone),
+        "brent-kung" => Some(Family::BrentKung),
+        "han-carlson" => Some(Family::HanCarlson),
+        _ => None,
     }
 }
 
@@ -63,62 +61,35 @@ fn family(word: &str) -> Result<usize, NoCall<'_>> {
         return Ok(family.number());
     }
     match words::number(word) {
-        Ok(value) => Ok(value),
-        Err(NoNumber::NotDigits) => Err(NoCall::NoFamily(word)),
-        Err(NoNumber::TooLarge) => Err(NoCall::TooLarge(word)),
+        Err(NoNumber::NotDigits(word)) => Err(NoCall::NoFamily(word)),
+        number => Ok(number?),
     }
 }
 
 // A family and a width.
 pub fn family_and_width<'a>(first: &'a str, second: &'a str) -> Result<(usize, usize), NoCall<'a>> {
-    Ok((family(first)?, number(second)?))
-}
-
-// A call that takes no word.
-fn alone<'a>(rest: &[&'a str], call: Call, form: &'static str) -> Result<Call, NoCall<'a>> {
-    if rest.is_empty() {
-        Ok(call)
-    } else {
-        Err(NoCall::Form(form))
-    }
-}
-
-// The one word that a call takes.
-fn one<'a>(rest: &[&'a str], form: &'static str) -> Result<&'a str, NoCall<'a>> {
-    match rest {
-        [word] => Ok(*word),
-        _ => Err(NoCall::Form(form)),
-    }
-}
-
-// The two words that a call takes.
-fn two<'a>(rest: &[&'a str], form: &'static str) -> Result<(&'a str, &'a str), NoCall<'a>> {
-    match rest {
-        [first, second] => Ok((*first, *second)),
-        _ => Err(NoCall::Form(form)),
-    }
+    Ok((family(first)?, words::number(second)?))
 }
 
 // The call that the words write: its name, and then what it takes.
 pub fn parse<'a>(name: &'a str, rest: &[&'a str]) -> Result<Call, NoCall<'a>> {
-    if name == "open" {
-        Ok(Call::Open(number(one(rest, "open WIDTH, one number")?)?))
-    } else if name == "join" {
-        let (low, high) = two(rest, "join LOW HIGH, two node numbers")?;
-        Ok(Call::Join(number(low)?, number(high)?))
-    } else if name == "undo" {
-        alone(rest, Call::Undo, "undo, and no word after it")
-    } else if name == "lay" {
-        Ok(Call::Lay(family(one(rest, "lay FAMILY, a name or a number")?)?))
-    } else if name == "output" {
-        Ok(Call::Output(number(one(rest, "output COLUMN, one number")?)?))
-    } else if name == "close" {
-        alone(rest, Call::Close, "close, and no word after it")
-    } else if name == "reopen" {
-        alone(rest, Call::Reopen, "reopen, and no word after it")
-    } else if name == "measure" {
-        alone(rest, Call::Measure, "measure, and no word after it")
-    } else {
-        Err(NoCall::Unknown(name))
+    match (name, rest) {
+        ("open", [width]) => Ok(Call::Open(words::number(width)?)),
+        ("open", _) => Err(NoCall::Form("open WIDTH, one number")),
+        ("join", [low, high]) => Ok(Call::Join(words::number(low)?, words::number(high)?)),
+        ("join", _) => Err(NoCall::Form("join LOW HIGH, two node numbers")),
+        ("undo", []) => Ok(Call::Undo),
+        ("undo", _) => Err(NoCall::Form("undo, and no word after it")),
+        ("lay", [name]) => Ok(Call::Lay(family(name)?)),
+        ("lay", _) => Err(NoCall::Form("lay FAMILY, a name or a number")),
+        ("output", [column]) => Ok(Call::Output(words::number(column)?)),
+        ("output", _) => Err(NoCall::Form("output COLUMN, one number")),
+        ("close", []) => Ok(Call::Close),
+        ("close", _) => Err(NoCall::Form("close, and no word after it")),
+        ("reopen", []) => Ok(Call::Reopen),
+        ("reopen", _) => Err(NoCall::Form("reopen, and no word after it")),
+        ("measure", []) => Ok(Call::Measure),
+        ("measure", _) => Err(NoCall::Form("measure, and no word after it")),
+        _ => Err(NoCall::Unknown(name)),
     }
 }

@@ -3,7 +3,7 @@ use sheet::sheet::Sheet;
 use std::fmt;
 
 // What is wrong with joining two nodes that do not meet, by the columns that they spell.
-#[derive(Clone, Copy)]
+#[derive(Clone, Copy, Debug, PartialEq, Eq)]
 pub struct Gap {
     low: Span,
     high: Span,

@@ -1,4 +1,4 @@
-use crate::failure::{Failure, usage};
+use crate::failure::Failure;
 
 const TEXT: &str = "\
 prefix: parallel-prefix networks, checked and measured
@@ -33,7 +33,7 @@ Examples:
 
 pub fn command(rt: &HostRuntime, rest: &[&str]) -> Result<(), Failure> {
     if !rest.is_empty() {
-        return usage(rt, "help takes no word");
+        return Err(Failure::usage(rt.alloc(), "help takes no word"));
     }
     print!(rt; "{TEXT}")?;
     Ok(())

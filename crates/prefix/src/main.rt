@@ -7,46 +7,36 @@ mod gap;
 mod help;
 mod measuring;
 mod network;
+mod no_answer;
 mod notation;
-mod reply;
+mod refused;
 mod running;
 mod scripting;
 mod serving;
 mod words;
 
-use failure::{Failure, usage};
+use failure::Failure;
 use std::env;
 use std::process::ExitCode;
 
 // The command that the words name.
 fn command(rt: &HostRuntime, words: &[&str]) -> Result<(), Failure> {
-    let Some((name, rest)) = words.split_first() else {
-        return usage(rt, "no command");
-    };
-    if *name == "sheet" {
-        scripting::command(rt, rest)
-    } else if *name == "measure" {
-        measuring::command(rt, rest)
-    } else if *name == "help" {
-        help::command(rt, rest)
-    } else {
-        usage(
-            rt,
-            format!(in rt.alloc(); "{name:?} is no command")?.as_str(),
-        )
+    match words {
+        [] => Err(Failure::usage(rt.alloc(), "no command")),
+        ["sheet", rest @ ..] => scripting::command(rt, rest),
+        ["measure", rest @ ..] => measuring::command(rt, rest),
+        ["help", rest @ ..] => help::command(rt, rest),
+        [name, ..] => Err(Failure::usage(rt.alloc(), format_args!("{name:?} is no command"))),
     }
 }
 
 fn run(rt: &HostRuntime) -> Result<(), Failure> {
     let heap = rt.alloc();
-    let mut arguments = Vec::new(heap);
-    for argument in env::args(rt)?.skip(1) {
-        arguments.push(argument)?;
-    }
-    let mut words = Vec::new(heap);
-    for argument in arguments.iter() {
-        words.push(argument.as_str())?;
-    }
+    let arguments: Vec<String> = env::args(rt)?.skip(1).collect(heap)?;
+    let words: Vec<&str> = arguments
+        .iter()
+        .map(|argument| argument.as_str())
+        .collect(heap)?;
     command(rt, words.as_slice())
 }
 
@@ -54,7 +44,7 @@ fn main(rt: HostRuntime) -> ExitCode {
     match run(&rt) {
         Ok(()) => ExitCode::SUCCESS,
         Err(failure) => {
-            failure::tell(&rt, &failure);
+            let _ = eprintln!(rt; "prefix: {failure}");
             ExitCode::FAILURE
         }
     }

@@ -1,86 +1,85 @@
-use crate::failure::{Failure, stop, usage};
-use crate::reply::Reply;
+ghost use Rattle.std.specs.Prelude.{◌≡◌, true};
+ghost use Rattle.script.specs.Serving.{standing};
+ghost use Rattle.sheet.specs.Closing.{account_of};
+
+use crate::failure::Failure;
+use crate::no_answer::NoAnswer;
+use crate::refused::Refused;
 use crate::{call, scripting, serving, words};
 use script::call::Call;
 use script::drawing::Drawing;
+use sheet::sheet::closed::ClosedSheet;
+use std::alloc::Global;
 
-// What was replied has to be an answer; a refusal, or no call, ends the run, told behind the place.
-fn answered(rt: &HostRuntime, place: &str, reply: Reply) -> Result<(), Failure> {
-    match reply {
-        Reply::Answered(_) => Ok(()),
-        Reply::Refused(told) | Reply::NoCall(told) => {
-            stop(rt, format!(in rt.alloc(); "{place}{told}")?.as_str())
-        }
+// A drawing on which a closed sheet stands.
+#[derive(Drop)]
+pub struct Network {
+    drawing: Drawing,
+    ghost stands: { (standing drawing).1 ≡ true },
+}
+
+impl Network {
+    // Closes a drawing.
+    fn closing(mut drawing: Drawing) -> Result<Network, Refused> {
+        serving::accepted(&mut drawing, Call::Close)?;
+        Ok(Network { drawing })
+    }
+
+    pub fn closed(&self) -> ClosedSheet<'_>
+        ensures { account_of result ≡ (standing self.now.drawing).0 }
+    {
+        self.drawing.closed().unwrap()
     }
 }
 
-// Serves a call that has to be accepted.
-fn accepted(
-    rt: &HostRuntime,
-    drawing: &mut Drawing,
-    place: &str,
-    call: Call,
-) -> Result<(), Failure> {
-    let answer = drawing.serve(call);
-    let reply = serving::worded(rt.alloc(), drawing, answer)?;
-    answered(rt, place, reply)
-}
-
-// A line of a drawing.
-fn line(rt: &HostRuntime, drawing: &mut Drawing, place: &str, text: &str) -> Result<(), Failure> {
-    let words = words::split(rt.alloc(), text)?;
-    let Some((name, rest)) = words.as_slice().split_first() else {
-        return Ok(());
-    };
-    let reply = serving::serve(rt.alloc(), drawing, name, rest)?;
-    answered(rt, place, reply)
+// Serves a line of a drawing. Not `scripting::line`: here no answer is printed, and none may be missing.
+fn line<'a>(heap: Global, drawing: &mut Drawing, text: &'a str) -> Result<(), NoAnswer<'a>> {
+    let words = words::split(heap, text)?;
+    serving::serve(heap, drawing, words.as_slice())?;
+    Ok(())
 }
 
 // The sheet of a script, every call of which is accepted, closed at its end.
-fn from_file(rt: &HostRuntime, file: &str) -> Result<Drawing, Failure> {
+fn from_file(rt: &HostRuntime, file: &str) -> Result<Network, Failure> {
     let heap = rt.alloc();
-    let script = scripting::contents(rt, file)?;
-    let mut drawing = Drawing::new();
-    for (index, text) in script.as_str().lines().enumerate() {
-        let number = index.saturating_add(1);
+    let drawing = scripting::drawn(rt, file, |drawing, number, text| {
         let place = format!(in heap; "{file}: line {number}: ")?;
-        line(rt, &mut drawing, place.as_str(), text)?;
-    }
-    let place = format!(in heap; "{file}: ")?;
-    accepted(rt, &mut drawing, place.as_str(), Call::Close)?;
-    Ok(drawing)
+        line(heap, drawing, text).map_err(|no| Failure::unanswered(heap, place.as_str(), no))
+    })?;
+    Network::closing(drawing).map_err(|refused| Failure::stopped(
+        heap,
+        format_args!("{file}: {refused}"),
+    ))
 }
 
 // A family on a new sheet, closed.
-fn from_family(rt: &HostRuntime, family: usize, width: usize) -> Result<Drawing, Failure> {
+fn from_family(family: usize, width: usize) -> Result<Network, Refused> {
     let mut drawing = Drawing::new();
-    accepted(rt, &mut drawing, "", Call::Open(width))?;
-    accepted(rt, &mut drawing, "", Call::Lay(family))?;
-    accepted(rt, &mut drawing, "", Call::Close)?;
-    Ok(drawing)
+    serving::accepted(&mut drawing, Call::Open(width))?;
+    serving::accepted(&mut drawing, Call::Lay(family))?;
+    Network::closing(drawing)
 }
 
-fn family_words<'a>(rt: &HostRuntime, family: &'a str, width: &'a str) -> Result<Drawing, Failure> {
+// A family and its width, by their words.
+fn from_words(heap: Global, family: &str, width: &str) -> Result<Network, Failure> {
     match call::family_and_width(family, width) {
-        Ok((family, width)) => from_family(rt, family, width),
-        Err(no) => {
-            usage(rt, format!(in rt.alloc(); "{no}")?.as_str())?;
-            Err(Failure::Told)
+        Ok((family, width)) => {
+            from_family(family, width).map_err(|refused| Failure::stopped(heap, refused))
         }
+        Err(no) => Err(Failure::usage(heap, no)),
     }
 }
 
-// The closed sheet that a NETWORK names: FAMILY WIDTH, or @FILE.
-pub fn draw(rt: &HostRuntime, words: &[&str]) -> Result<Drawing, Failure> {
-    match words {
-        [file] => {
-            if let Some(file) = file.strip_prefix('@') {
-                return from_file(rt, file);
-            }
-        }
-        [family, width] => return family_words(rt, family, width),
-        _ => {}
+// The network that the words name: FAMILY WIDTH, or @FILE.
+pub fn draw(rt: &HostRuntime, words: &[&str]) -> Result<Network, Failure> {
+    let heap = rt.alloc();
+    let file = match words {
+        [family, width] => return from_words(heap, family, width),
+        [word] => word.strip_prefix('@'),
+        _ => None,
+    };
+    match file {
+        Some(file) => from_file(rt, file),
+        None => Err(Failure::usage(heap, "a network is FAMILY WIDTH or @FILE")),
     }
-    usage(rt, "a network is FAMILY WIDTH or @FILE")?;
-    Err(Failure::Told)
 }

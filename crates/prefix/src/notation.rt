@@ -7,8 +7,9 @@ use kinds::parity::Parities;
 use kinds::verdict::Verdicts;
 use std::fmt;
 
-// An element as it is written.
-#[derive(Clone, Copy)]
+// An element as it is written. The elements are types of other crates, which cannot be given a
+// Display here.
+#[derive(Clone, Copy, Debug)]
 pub enum Written {
     Carry(Carry),
     Parity(bool),
@@ -19,15 +20,13 @@ pub enum Written {
 impl fmt::Display for Written {
     fn fmt<W: fmt::Write>(&self, f: &mut fmt::Formatter<W>) -> fmt::Result {
         match self {
-            Written::Carry(carry) => {
-                let generate = carry.generate as u8;
-                let propagate = carry.propagate as u8;
-                write!(f, "{generate}{propagate}")
-            }
-            Written::Parity(bit) => {
-                let bit = *bit as u8;
-                write!(f, "{bit}")
-            }
+            Written::Carry(carry) => write!(
+                f,
+                "{}{}",
+                u8::from(carry.generate),
+                u8::from(carry.propagate)
+            ),
+            Written::Parity(bit) => write!(f, "{}", u8::from(*bit)),
             Written::Verdict(Verdict::Equal) => write!(f, "="),
             Written::Verdict(Verdict::Less) => write!(f, "<"),
             Written::Verdict(Verdict::Greater) => write!(f, ">"),
@@ -36,56 +35,32 @@ impl fmt::Display for Written {
     }
 }
 
-// A kind whose elements can be written.
+// A kind whose elements can be written. No FromStr or Display of the elements: a bool has its own,
+// with true and false.
 pub trait Notation: Kind {
     // How an element is written, for a message.
-    fn form() -> &'static str;
+    const FORM: &'static str;
 
     fn read(word: &str) -> Option<Self::Element>;
 
     fn write(element: Self::Element) -> Written;
 }
 
-// A digit 0 or 1.
-fn bit(word: &str) -> Option<bool> {
-    if word == "0" {
-        Some(false)
-    } else if word == "1" {
-        Some(true)
-    } else {
-        None
-    }
-}
-
 impl Notation for Carries {
-    fn form() -> &'static str {
-        "an element of carry is two digits, generate and propagate, as 10"
-    }
+    const FORM: &'static str = "an element of carry is two digits, generate and propagate, as 10";
 
     fn read(word: &str) -> Option<Carry> {
-        if word == "00" {
-            Some(Carry {
-                generate: false,
-                propagate: false,
-            })
-        } else if word == "01" {
-            Some(Carry {
-                generate: false,
-                propagate: true,
-            })
-        } else if word == "10" {
-            Some(Carry {
-                generate: true,
-                propagate: false,
-            })
-        } else if word == "11" {
-            Some(Carry {
-                generate: true,
-                propagate: true,
-            })
-        } else {
-            None
-        }
+        let (generate, propagate) = match word {
+            "00" => (false, false),
+            "01" => (false, true),
+            "10" => (true, false),
+            "11" => (true, true),
+            _ => return None,
+        };
+        Some(Carry {
+            generate,
+            propagate,
+        })
     }
 
     fn write(element: Carry) -> Written {
@@ -94,12 +69,14 @@ impl Notation for Carries {
 }
 
 impl Notation for Parities {
-    fn form() -> &'static str {
-        "an element of parity is 0 or 1"
-    }
+    const FORM: &'static str = "an element of parity is 0 or 1";
 
     fn read(word: &str) -> Option<bool> {
-        bit(word)
+        match word {
+            "0" => Some(false),
+            "1" => Some(true),
+            _ => None,
+        }
     }
 
     fn write(element: bool) -> Written {
@@ -108,19 +85,14 @@ impl Notation for Parities {
 }
 
 impl Notation for Verdicts {
-    fn form() -> &'static str {
-        "an element of verdict is =, < or >"
-    }
+    const FORM: &'static str = "an element of verdict is =, < or >";
 
     fn read(word: &str) -> Option<Verdict> {
-        if word == "=" {
-            Some(Verdict::Equal)
-        } else if word == "<" {
-            Some(Verdict::Less)
-        } else if word == ">" {
-            Some(Verdict::Greater)
-        } else {
-            None
+        match word {
+            "=" => Some(Verdict::Equal),
+            "<" => Some(Verdict::Less),
+            ">" => Some(Verdict::Greater),
+            _ => None,
         }
     }
 
@@ -130,24 +102,14 @@ impl Notation for Verdicts {
 }
 
 impl Notation for Maps {
-    fn form() -> &'static str {
-        "an element of map is a number from 0 to 255"
-    }
+    const FORM: &'static str = "an element of map is a number from 0 to 255";
 
     fn read(word: &str) -> Option<Map> {
-        match words::number(word) {
-            Ok(value) => {
-                if value < 256 {
-                    Some(Map::from_byte(value as u8))
-                } else {
-                    None
-                }
-            }
-            Err(_) => None,
-        }
+        let byte = u8::try_from(words::number(word).ok()?).ok()?;
+        Some(Map::from(byte))
     }
 
     fn write(element: Map) -> Written {
-        Written::Map(element.to_byte())
+        Written::Map(u8::from(element))
     }
 }

@@ -1,5 +1,5 @@
 -- What the answer of close says of the account.
-use Rattle.std.proofs.Common.{◌≡◌, ℕ, zero, suc, ◌+◌, true, false, ◌⊎◌, [], ◌∷◌, is_some, Ok, Err, Result, refl, ◌∙◌, inl, inr, ⊎_elim, arith, MatchOption}
+use Rattle.std.proofs.Common.{◌≡◌, ℕ, zero, suc, ◌+◌, Bool, true, false, ◌⊎◌, [], ◌∷◌, is_some, Ok, Err, Result, refl, ◌∙◌, subst, inl, inr, ⊎_elim, arith, MatchOption}
 use Rattle.std.specs.Result.{result_ok}
 use Rattle.std.proofs.lemmas.Bool.{cases_Bool}
 use Rattle.account.specs.Account.{Account, closed_sheet, refused, output_of, Covered, closing, closed}
@@ -20,10 +20,10 @@ not_closed_lem (NotBare k) a e = cc
 not_closed_lem (NoFamily f) a e = cc
 not_closed_lem (Uncovered c) a e = cc
 
--- a covered sheet closes
-pub closes_again : (r : Result ClosedSheet Refusal) (a : Account) → Covered a → close_answer r ≡ closed a → MatchOption (result_ok r) ⊥ (λ k. account_of k ≡ a)
-closes_again (Ok k) a cov e = let f : closed_sheet (account_of k) ≡ closed_sheet a = e ∙ closes a 0 a.columns cov (omega arith) in cc
-closes_again (Err x) a cov e = let z = not_closed_lem x a (e ∙ closes a 0 a.columns cov (omega arith)) in absurd (omega arith)
+-- where a closed sheet was said to stand, closing gives it
+pub closes_again : (r : Result ClosedSheet Refusal) (a : Account) (b : Bool) → b ≡ true → Covered a → close_answer r ≡ closed a → MatchOption (result_ok r) (b ≡ false) (λ k. (b ≡ true) × (account_of k ≡ a))
+closes_again (Ok k) a b t cov e = let f : closed_sheet (account_of k) ≡ closed_sheet a = e ∙ closes a 0 a.columns cov (omega arith) in (t, cc)
+closes_again (Err x) a b t cov e = let z = not_closed_lem x a (e ∙ closes a 0 a.columns cov (omega arith)) in absurd (omega arith)
 
 -- closing answers a closed sheet of this account, or refuses
 closing_cases : (a : Account) (c k : ℕ) → (closing a c k ≡ closed_sheet a) ⊎ ((x : ℕ) × (closing a c k ≡ refused 8 (x ∷ [])))
@@ -34,9 +34,13 @@ closing_cases a c (suc k) =
     (λ (f : is_some (output_of a c) ≡ false). inr (c, rw f))
     (cases_Bool (is_some (output_of a c)))
 
-pub closed_is : (a b : Account) → closed_sheet b ≡ closed a → b ≡ a
+closed_is : (a b : Account) → closed_sheet b ≡ closed a → b ≡ a
 closed_is a b e =
     ⊎_elim
     (λ (t : closing a 0 a.columns ≡ closed_sheet a). cc)
     (λ (p : (x : ℕ) × (closing a 0 a.columns ≡ refused 8 (x ∷ []))). let z : ◌≡◌ {A = ℕ} 0 1 = (let f = p.1 in cc) in absurd (omega arith))
     (closing_cases a 0 a.columns)
+
+-- a sheet that closes is covered
+pub covered_by : (a : Account) (k : ClosedSheet) → closed_sheet (account_of k) ≡ closed a → Covered a
+covered_by a k e = subst Covered (closed_is a (account_of k) e) k.covered

@@ -1,15 +1,16 @@
 -- What a call of a sheet script answers and leaves, by the account of the sheet and whether a closed sheet stands on it.
-use Rattle.std.specs.Prelude.{ℕ, Bool, true, false, cond}
+use Rattle.std.specs.Prelude.{ℕ, Bool, true, false, cond, Some, None, Ok, Err, Result}
 use Rattle.account.specs.Account as accounts
 use Rattle.account.specs.Account.{Account, number, none, done, closed_sheet, refused, opened, joined, undone, laid, output_of, found, closed}
 use Rattle.answers.specs.Refusals.{refusal}
 use Rattle.answers.specs.declared.measure.Measure.{Measure}
+use Rattle.answers.specs.declared.refusal.Refusal.{Refusal}
 use Rattle.sheet.specs.View.{account}
 use Rattle.sheet.specs.Measured.{measured}
 use Rattle.script.specs.declared.call.Call.{Call}
 use Rattle.script.specs.declared.call.Call.TheVariants.{Open, Join, Undo, Lay, Output, Close, Reopen, Measure as MeasureCall}
 use Rattle.script.specs.declared.answer.Answer as replies
-use Rattle.script.specs.declared.answer.Answer.TheVariants.{Done, Number, Nothing, Measured, NotClosed, Refused}
+use Rattle.script.specs.declared.answer.Answer.TheVariants.{Done, Number, Measured}
 use Rattle.script.specs.declared.drawing.Drawing.{Drawing}
 
 -- An answer: one of the account's, a measure, or that no closed sheet stands.
@@ -18,14 +19,13 @@ pub data Told : Type 0 where
   measures : Measure → Told
   not_closed : Told
 
--- The number and values of each case of an answer.
-abbrev pub told : replies.Answer → Told
-told Done = plain done
-told (Number v) = plain (number v)
-told Nothing = plain none
-told (Measured m) = measures m
-told NotClosed = not_closed
-told (Refused r) = plain (refusal r)
+-- The number and values of each case of an answer or a refusal.
+abbrev pub told : Result replies.Answer Refusal → Told
+told (Ok Done) = plain done
+told (Ok (Number o)) = plain (found o)
+told (Ok (Measured (Some m))) = measures m
+told (Ok (Measured None)) = not_closed
+told (Err r) = plain (refusal r)
 
 -- The sheet's account, and whether a closed sheet stands.
 abbrev pub Standing : Type 0

@@ -1,5 +1,5 @@
 // A call of a sheet script, with the numbers that it takes.
-#[derive(Clone, Copy)]
+#[derive(Clone, Copy, Debug, PartialEq, Eq)]
 pub enum Call {
     Open(usize),
     Join(usize, usize),

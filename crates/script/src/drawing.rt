@@ -5,6 +5,8 @@ ghost use Rattle.sheet.specs.View.{account};
 use sheet::sheet::Sheet;
 
 // A sheet, and whether a closed sheet stands on it.
+// The state is a flag: a closed sheet borrows the sheet, and an enum of two sheets would move all its
+// nodes at each call.
 #[derive(Drop)]
 pub struct Drawing {
     pub(crate) sheet: Sheet,
