@@ -1,41 +1,30 @@
+use crate::tools::{MAKE, PASS};
 use kinds::carry::Carries;
-use kinds::elements::{Carry, Map, Verdict};
+use kinds::elements::{Map, Verdict};
 use kinds::fold::fold;
 use kinds::kind::Kind;
 use kinds::map::Maps;
 use kinds::parity::Parities;
 use kinds::verdict::Verdicts;
-use std::test::*;
 
 #[test]
-fn carries(rt: HostRuntime) -> Result<(), Fail> {
-    let low = Carry {
-        generate: true,
-        propagate: false,
-    };
-    let high = Carry {
-        generate: false,
-        propagate: true,
-    };
-    let both = Carries::product(low, high);
-    assert!(rt; both.generate && !both.propagate);
+fn carries(rt: HostRuntime) {
+    let both = Carries::product(MAKE, PASS);
+    assert_eq!(rt; both, MAKE);
     assert_eq!(rt; Carries::bit(both, 0), 1);
     assert_eq!(rt; Carries::bit(both, 1), 0);
-    assert_eq!(rt; Carries::bit(high, 2), 0);
-    let none = fold::<Carries>(&[]);
-    assert!(rt; !none.generate && none.propagate);
-    Ok(())
+    assert_eq!(rt; Carries::bit(PASS, 2), 0);
+    assert_eq!(rt; fold::<Carries>(&[]), PASS);
 }
 
 #[test]
-fn parities(rt: HostRuntime) -> Result<(), Fail> {
+fn parities(rt: HostRuntime) {
     assert!(rt; fold::<Parities>(&[true, false, true, true]));
     assert!(rt; !fold::<Parities>(&[]));
-    Ok(())
 }
 
 #[test]
-fn verdicts(rt: HostRuntime) -> Result<(), Fail> {
+fn verdicts(rt: HostRuntime) {
     assert_eq!(rt;
         Verdicts::product(Verdict::Less, Verdict::Greater).number(),
         2
@@ -46,19 +35,14 @@ fn verdicts(rt: HostRuntime) -> Result<(), Fail> {
     );
     assert_eq!(rt; Verdicts::bit(Verdict::Greater, 1), 1);
     assert_eq!(rt; Verdicts::unit().number(), 0);
-    Ok(())
 }
 
 #[test]
-fn maps(rt: HostRuntime) -> Result<(), Fail> {
-    let low = Map::from_byte(0);
-    let high = Map::from_byte(225);
-    assert_eq!(rt; Maps::product(low, high).to_byte(), 85);
-    assert_eq!(rt;
-        Maps::product(Map::from_byte(27), Map::from_byte(27)).to_byte(),
-        228
-    );
-    assert_eq!(rt; Maps::unit().to_byte(), 228);
+fn maps(rt: HostRuntime) {
+    let low = Map::from(0);
+    let high = Map::from(225);
+    assert_eq!(rt; u8::from(Maps::product(low, high)), 85);
+    assert_eq!(rt; u8::from(Maps::product(Map::from(27), Map::from(27))), 228);
+    assert_eq!(rt; u8::from(Maps::unit()), 228);
     assert_eq!(rt; Maps::size(), 80);
-    Ok(())
 }

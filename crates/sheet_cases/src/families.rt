@@ -1,4 +1,5 @@
-use sheet::sheet::Sheet;
+use crate::tools::opened;
+use answers::measure::Measure;
 use std::process::Abort;
 use std::test::Fail;
 
@@ -30,31 +31,24 @@ const MEASURES: [(usize, usize, usize, usize, usize); 24] = [
     (4, 64, 192, 7, 6),
 ];
 
-fn measured(
-    rt: &impl Abort,
-    family: usize,
-    width: usize,
-) -> Result<(usize, usize, usize, usize), Fail> {
-    let mut sheet = Sheet::bare();
-    assert!(rt; sheet.open(width).is_ok());
-    let Ok(laid) = sheet.lay(family) else {
-        return Err(Fail::new("lay"));
-    };
-    match sheet.close() {
-        Ok(closed) => {
-            let measure = closed.measure();
-            Ok((laid, measure.joins, measure.depth, measure.fan_out))
-        }
-        Err(_) => Err(Fail::new("close")),
-    }
-}
-
 #[test]
 fn measures(rt: HostRuntime) -> Result<(), Fail> {
     for (family, width, joins, depth, fan_out) in MEASURES {
+        let mut sheet = opened(&rt, width);
         assert_eq!(rt;
-            measured(&rt, family, width)?,
-            (joins, joins, depth, fan_out)
+            sheet.lay(family),
+            Ok(joins),
+            "family {family} at width {width}"
+        );
+        let measure = Measure {
+            joins,
+            depth,
+            fan_out,
+        };
+        assert_eq!(rt;
+            sheet.close()?.measure(),
+            measure,
+            "family {family} at width {width}"
         );
     }
     Ok(())
@@ -126,19 +120,14 @@ const HAN_CARLSON: [(usize, usize); 12] = [
 
 // The joins of a family at width 8 are these, in this order.
 fn lays(rt: &impl Abort, family: usize, pairs: &[(usize, usize)]) -> Result<(), Fail> {
-    let mut sheet = Sheet::bare();
-    assert!(rt; sheet.open(8).is_ok());
-    assert_eq!(rt; sheet.lay(family).ok(), Some(pairs.len()));
-    match sheet.close() {
-        Ok(closed) => {
-            for (join, pair) in pairs.iter().enumerate() {
-                assert_eq!(rt; closed.operands(join), Some(*pair));
-            }
-            assert_eq!(rt; closed.operands(pairs.len()), None);
-            Ok(())
-        }
-        Err(_) => Err(Fail::new("close")),
+    let mut sheet = opened(rt, 8);
+    assert_eq!(rt; sheet.lay(family), Ok(pairs.len()));
+    let closed = sheet.close()?;
+    for (join, pair) in pairs.iter().enumerate() {
+        assert_eq!(rt; closed.operands(join), Some(*pair));
     }
+    assert_eq!(rt; closed.operands(pairs.len()), None);
+    Ok(())
 }
 
 #[test]

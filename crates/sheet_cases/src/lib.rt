@@ -7,3 +7,5 @@ mod calls;
 mod families;
 #[cfg(test)]
 mod limits;
+#[cfg(test)]
+mod tools;
