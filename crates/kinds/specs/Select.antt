@@ -1,6 +1,6 @@
 -- Seven gates select one of four bits.
 use Rattle.std.proofs.Common.{arith, rules, ◌∙◌}
-use Rattle.std.specs.Prelude.{◌≡◌, ℕ, zero, suc, ◌<◌, refl}
+use Rattle.std.specs.Prelude.{◌≡◌, ℕ, zero, suc, ◌<◌, List, ◌∷◌, refl}
 use Rattle.netlist.specs.Gates.{row_value}
 use Rattle.kinds.specs.Map.{entry_at, low_bit, high_bit}
 use Rattle.kinds.specs.declared.elements.State.{State}
@@ -41,6 +41,9 @@ pick S1 a b c d = b
 pick S2 a b c d = c
 pick S3 a b c d = d
 
+any_of : {p q r s p' q' r' s' : ℕ} → p ≡ p' → q ≡ q' → r ≡ r' → s ≡ s' → any p q r s ≡ any p' q' r' s'
+any_of e f g h = cc
+
 selects : (x : State) (a b c d : ℕ) → a < 2 → b < 2 → c < 2 → d < 2 → select (low_bit x) (high_bit x) a b c d ≡ pick x a b c d
 selects S0 a b c d i j k l = simp (and_on, and_off, or_left)
 selects S1 a b c d i j k l = simp (and_on, and_off, or_left, or_right)
@@ -53,8 +56,17 @@ low_small x = search rules
 pub high_small : (x : State) → high_bit x < 2
 high_small x = search rules
 
+low_pick : (x : State) (h : Map) → pick x (low_bit h.e0) (low_bit h.e1) (low_bit h.e2) (low_bit h.e3) ≡ low_bit (entry_at h x)
+low_pick x h = search rules
+
+high_pick : (x : State) (h : Map) → pick x (high_bit h.e0) (high_bit h.e1) (high_bit h.e2) (high_bit h.e3) ≡ high_bit (entry_at h x)
+high_pick x h = search rules
+
 pub selects_low : (x : State) (h : Map) → select (low_bit x) (high_bit x) (low_bit h.e0) (low_bit h.e1) (low_bit h.e2) (low_bit h.e3) ≡ low_bit (entry_at h x)
-selects_low x h = selects x _ _ _ _ (low_small h.e0) (low_small h.e1) (low_small h.e2) (low_small h.e3) ∙ search rules
+selects_low x h = selects x _ _ _ _ (low_small h.e0) (low_small h.e1) (low_small h.e2) (low_small h.e3) ∙ low_pick x h
 
 pub selects_high : (x : State) (h : Map) → select (low_bit x) (high_bit x) (high_bit h.e0) (high_bit h.e1) (high_bit h.e2) (high_bit h.e3) ≡ high_bit (entry_at h x)
-selects_high x h = selects x _ _ _ _ (high_small h.e0) (high_small h.e1) (high_small h.e2) (high_small h.e3) ∙ search rules
+selects_high x h = selects x _ _ _ _ (high_small h.e0) (high_small h.e1) (high_small h.e2) (high_small h.e3) ∙ high_pick x h
+
+pub and_then : {x y : ℕ} {xs ys : List ℕ} → x ≡ y → xs ≡ ys → (x ∷ xs) ≡ (y ∷ ys)
+and_then e f = cc
