@@ -1,5 +1,5 @@
 -- What build answers, and what its gate table then holds.
-use Rattle.std.specs.Prelude.{◌≡◌, ℕ, cond, List, length, take, nat_lt}
+use Rattle.std.specs.Prelude.{◌≡◌, ℕ, cond, List, Option, None, Some, length, take, nat_lt}
 use Rattle.account.specs.Account.{Account}
 use Rattle.netlist.specs.declared.gate.Gate.{Gate}
 use Rattle.netlist.specs.declared.refusal.Slots.TheVariants.{Gates}
@@ -18,6 +18,13 @@ start_of Adder = 0
 start_of Comparator = 0
 start_of GrayDecoder = 0
 start_of (MachineBlock m) = m.start
+
+-- The start state of a block that has one.
+abbrev pub start_if_any : Block → Option ℕ
+start_if_any Adder = None
+start_if_any Comparator = None
+start_if_any GrayDecoder = None
+start_if_any (MachineBlock m) = Some m.start
 
 -- A start above 3, then too few slots, refuses and leaves the table; else the block's gates stand from slot 0 on.
 abbrev pub built : Block → Account → List Gate → Answer × List Gate

@@ -1,7 +1,7 @@
 ghost use Rattle.std.specs.Prelude.{◌≡◌, ◌*◌, ◌<◌, ◌≤◌, length};
 ghost use Rattle.std.specs.Option.{unwrap_or};
 ghost use Rattle.meaning.specs.Layout.{template, width as element_width, input_count, leaf_count, end_count, output_count, adder_leaf, comparator_leaf, symbol_gate, machine_leaf, leaf_gate, column_net};
-ghost use Rattle.blocks.specs.Building.{start_of};
+ghost use Rattle.blocks.specs.Building.{start_of, start_if_any};
 
 use kinds::carry::Carries;
 use kinds::kind::Kind;
@@ -13,7 +13,8 @@ use netlist::gate::{AND, BUFFER, Gate, NOT, XOR};
 
 // The start state of a block that has one.
 pub(crate) fn start_of(block: Block) -> Option<usize>
-    ensures { unwrap_or result 0 ≡ start_of block }
+    ensures some { result ≡ start_if_any block }
+    ensures number { unwrap_or result 0 ≡ start_of block }
 {
     match block {
         Block::Machine(machine) => Some(machine.start),
