@@ -30,7 +30,7 @@ unfolding Sound
 sound_grown n s t g k ps p qs e =
     k ps p (qs ++ g.0) (sym (append_assoc ps (p ∷ qs) g.0) ∙ ap (λ (js : List Pair). js ++ g.0) e ∙ sym g.1)
 
--- one column on
+-- one column on, and one level on
 pub column_more : (n : ℕ) (l : Level) (before : List ℕ) (s : Laying) (i : ℕ) → i < n →
     fold (lay_column n l before) s (drop i (range_with_len 0 n)) ≡ fold (lay_column n l before) (lay_column n l before s i) (drop (i + 1) (range_with_len 0 n))
 column_more n l before s i h =
@@ -41,22 +41,39 @@ column_more n l before s i h =
 pub columns_all : (n : ℕ) (l : Level) (before : List ℕ) (s : Laying) (i : ℕ) → n ≤ i → fold (lay_column n l before) s (drop i (range_with_len 0 n)) ≡ s
 columns_all n l before s i h = at_drop_all (fold (lay_column n l before) s) (range_with_len 0 n) i (omega (arith, length-range_with_len 0 n))
 
+pub level_more : (n : ℕ) (ls : List Level) (s : Laying) (t : ℕ) → t < length ls →
+    fold (lay_level n) s (drop t ls) ≡ fold (lay_level n) (lay_level n s (get_or ls t idle)) (drop (t + 1) ls)
+level_more n ls s t h = at_drop_more (fold (lay_level n) s) ls t idle h
+
+pub levels_all : (n : ℕ) (ls : List Level) (s : Laying) (t : ℕ) → length ls ≤ t → fold (lay_level n) s (drop t ls) ≡ s
+levels_all n ls s t h = at_drop_all (fold (lay_level n) s) ls t h
+
 pub column_stays : (n : ℕ) (l : Level) (before : List ℕ) (s : Laying) (i : ℕ) → l i ≡ None → lay_column n l before s i ≡ s
 column_stays n l before s i e = rw e
 
 -- the steps of a level, column by column
 pub ruleset columns = (column_more, columns_all, column_stays, set-get_or)
 
+-- after one column of a sound level the joins are sound
+pub column_sound : (n : ℕ) (l : Level) (before : List ℕ) (s : Laying) (i : ℕ) → i < n →
+    Sound n (fold (lay_column n l before) s (drop i (range_with_len 0 n))).joins → Sound n (lay_column n l before s i).joins
+column_sound n l before s i h k =
+    let S : Laying → Type 0 = λ t. Sound n t.joins in
+    sound_grown n (lay_column n l before s i) (fold (lay_column n l before) (lay_column n l before s i) (drop (i + 1) (range_with_len 0 n)))
+    (grows_folded (lay_column n l before) (λ t j. grows_column n before t j (l j)) (lay_column n l before s i) (drop (i + 1) (range_with_len 0 n)))
+    (subst S (column_more n l before s i h) k)
+
+-- the last join of sound joins is accepted
+pub sound_last : (n : ℕ) (ps : List Pair) (p : Pair) → Sound n (ps ++ p ∷ []) → Accepts n ps p
+unfolding Sound
+sound_last n ps p k = k ps p [] refl
+
 -- a column that joins at a sound level does so with success
 pub column_accepts : (n : ℕ) (l : Level) (before : List ℕ) (s : Laying) (i j : ℕ) → i < n → l i ≡ Some j →
     Sound n (fold (lay_column n l before) s (drop i (range_with_len 0 n))).joins → Accepts n s.joins (get_or before j 0, get_or before i 0)
 unfolding Sound
 column_accepts n l before s i j h e k =
-    let S : Laying → Type 0 = λ t. Sound n t.joins in
-    let one = sound_grown n (lay_column n l before s i) (fold (lay_column n l before) (lay_column n l before s i) (drop (i + 1) (range_with_len 0 n)))
-    (grows_folded (lay_column n l before) (λ t v. grows_column n before t v (l v)) (lay_column n l before s i) (drop (i + 1) (range_with_len 0 n)))
-    (subst S (column_more n l before s i h) k) in
-    one s.joins (get_or before j 0, get_or before i 0) [] (rw e)
+    column_sound n l before s i h k s.joins (get_or before j 0, get_or before i 0) [] (rw e)
 
 -- the first level
 pub level_sound : (n : ℕ) (l : Level) (ls : List Level) (s : Laying) → Sound n (fold (lay_level n) s (l ∷ ls)).joins → Sound n (lay_level n s l).joins

@@ -1,4 +1,4 @@
-use Rattle.std.proofs.Common.{◌≡◌, ℕ, zero, suc, ◌+◌, ◌-◌, ◌<◌, ◌≤◌, max, true, false, List, [], ◌∷◌, ◌++◌, map, length, get_or, drop, Some, sym, refl, ap, ◌∙◌, ⊎_elim, arith}
+use Rattle.std.proofs.Common.{◌≡◌, ℕ, zero, suc, ◌+◌, ◌-◌, ◌<◌, ◌≤◌, max, true, false, cond, List, [], ◌∷◌, ◌++◌, map, length, get_or, drop, Some, sym, refl, ap, ◌∙◌, ⊎_elim, arith}
 use Rattle.std.specs.List.{range_with_len}
 use Rattle.std.proofs.lemmas.List.{at_drop_more, at_drop_all, length_push, get_or_push, get_or_append_left}
 use Rattle.std.proofs.lemmas.List.FromFn.{length-range_with_len, get_or-range_with_len, length-map-range_with_len, get_or-map-range_with_len}
@@ -6,7 +6,7 @@ use Rattle.std.proofs.lemmas.Bool.{cases_Bool}
 use Rattle.account.specs.Words.{Pair, words, word}
 use Rattle.account.specs.Families.{greatest}
 use Rattle.account.specs.Account.{Account, nodes, word_of, same, place_of, output_of}
-use Rattle.account.specs.Measure.{deeper, deepened, depths}
+use Rattle.account.specs.Measure.{deeper, deepened, depths, takes, takers}
 use Rattle.account.proofs.Spelling.{length_words}
 use Rattle.account.proofs.Tying.{same_true}
 
@@ -54,6 +54,13 @@ greatest_more g n c best h =
 pub greatest_all : (g : ℕ → ℕ) (n c best : ℕ) → n ≤ c → max best (greatest (map g (drop c (range_with_len 0 n)))) ≡ best
 greatest_all g n c best h =
     at_drop_all (λ (xs : List ℕ). max best (greatest (map g xs))) (range_with_len 0 n) c (omega (arith, length-range_with_len 0 n)) ∙ omega arith
+
+-- the joins that take v, from join r on
+pub takers_more : (v : ℕ) (ps : List Pair) (r : ℕ) → r < length ps → takers v (drop r ps) ≡ cond (takes v (get_or ps r (0, 0))) 1 0 + takers v (drop (r + 1) ps)
+takers_more v ps r h = at_drop_more (takers v) ps r (0, 0) h
+
+pub takers_all : (v : ℕ) (ps : List Pair) (r : ℕ) → length ps ≤ r → takers v (drop r ps) ≡ 0
+takers_all v ps r h = at_drop_all (takers v) ps r h
 
 -- an output is a node
 placed : (w : List ℕ) (ws : List (List ℕ)) (k v : ℕ) → place_of w ws k ≡ Some v → v < k + length ws

@@ -3,12 +3,14 @@ use Rattle.std.proofs.Common.{◌≡◌, ℕ, ◌+◌, ◌*◌, ◌<◌, ◌≤�
 use Rattle.std.specs.List.{prefix_len}
 use Rattle.std.proofs.lemmas.List.{length-take-le}
 use Rattle.std.proofs.lemmas.List.Sums.{prefix_len-le-length}
-use Rattle.std.proofs.lemmas.Bool.{ltb-false, eqb-true, not-false, or_parts}
+use Rattle.std.proofs.lemmas.Bool.{ltb-false, eqb-true, not-false, or_parts, le-ltb, eq-eqb}
 use Rattle.account.specs.Words.{Ordered}
 use Rattle.account.specs.Account.{Account, nodes}
 use Rattle.netlist.specs.declared.gate.Gate.{Gate}
 use Rattle.netlist.specs.Gates.{good_from}
-use Rattle.netlist.specs.Refusals.{Answer, number, refused}
+use Rattle.netlist.specs.declared.refusal.Slots.TheVariants.{Gates}
+use Rattle.netlist.specs.declared.refusal.Refusal.TheVariants.{Short}
+use Rattle.netlist.specs.Refusals.{Answer, number, done, refused, refusal}
 use Rattle.kinds.specs.declared.template.TemplateGate.{TemplateGate}
 use Rattle.kinds.specs.declared.template.Pin.{Pin}
 use Rattle.expansion.specs.Expansion.{appended, wired, written, column_nets, grown_to, admitted, tables, expanded, Computes}
@@ -79,6 +81,22 @@ computed op u bits t rs l k a m gates used nets total gs ns o e f g =
     (subst (λ z. Computes op u bits (length rs) a m (take used gates) nets (take used gates ++ appended t rs (m + used) cols a.joins) z) (sym g)
     (subst (λ n. Computes op u bits (length rs) a m (take used gates) nets (take used gates ++ appended t rs (m + n) cols a.joins) (wired t rs (m + n) cols a.joins)) size main))
 
+-- the last check refuses, where all others pass
+pub admit_short : (t : List TemplateGate) (rs : List Pin) (a : Account) (m : ℕ) (gates : List Gate) (used : ℕ) (nets : List ℕ)
+    → m ≤ 1024 → used ≤ length gates → used ≤ 1048576 → length nets ≡ nodes a * length rs → used ≤ good_from m (take used gates)
+    → a.columns * length rs ≤ prefix_len (λ k. ltb k (m + used)) (column_nets rs a nets) → (ltb (length gates) (grown_to t a used) || ltb 1048576 (grown_to t a used)) ≡ true
+    → refusal (Short Gates) ≡ admitted t rs a m gates used nets
+admit_short t rs a m gates used nets c d e f g h i =
+    rw (
+      le-ltb 1024 m c,
+      le-ltb (length gates) used d,
+      le-ltb 1048576 used e,
+      eq-eqb (length nets) (nodes a * length rs) f,
+      le-ltb (good_from m (take used gates)) used g,
+      le-ltb (prefix_len (λ k. ltb k (m + used)) (column_nets rs a nets)) (a.columns * length rs) h,
+      i,
+    )
+
 pub expanded_ok : (t : List TemplateGate) (rs : List Pin) (a : Account) (m : ℕ) (gates : List Gate) (used : ℕ) (nets : List ℕ) (total : ℕ) (gs : List Gate) (ns : List ℕ)
     → number total ≡ admitted t rs a m gates used nets → gs ≡ written gates used (appended t rs (m + used) (column_nets rs a nets) a.joins)
     → ns ≡ wired t rs (m + used) (column_nets rs a nets) a.joins → (number total, gs, ns) ≡ expanded t rs a m gates used nets
@@ -86,3 +104,23 @@ expanded_ok t rs a m gates used nets total gs ns e f g =
     let new : List Gate × List ℕ = (written gates used (appended t rs (m + used) (column_nets rs a nets) a.joins), wired t rs (m + used) (column_nets rs a nets) a.joins) in
     let both : (number total, gs, ns) ≡ tables (number total) new (gates, nets) = cc in
     both ∙ ap (λ r. tables r new (gates, nets)) e
+
+-- the tables after a number are the new ones
+pub number_tables : (r : Answer) (new old : List Gate × List ℕ) (total : ℕ) (gs : List Gate) (ns : List ℕ) → tables r new old ≡ (number total, gs, ns)
+    → (number total ≡ r) × (gs ≡ new.0) × (ns ≡ new.1)
+number_tables (number n) new old total gs ns e =
+    (sym (ap (λ (p : Answer × List Gate × List ℕ). p.0) e), sym (ap (λ (p : Answer × List Gate × List ℕ). p.1) e), sym (ap (λ (p : Answer × List Gate × List ℕ). p.2) e))
+number_tables done new old total gs ns e =
+    let f : done ≡ number total = ap (λ (p : Answer × List Gate × List ℕ). p.0) e in
+    absurd cc
+number_tables (refused k vs) new old total gs ns e =
+    let f : refused k vs ≡ number total = ap (λ (p : Answer × List Gate × List ℕ). p.0) e in
+    absurd cc
+
+pub expansion_computes : {E : Type 0} (op : E → E → E) (u : E) (bits : E → List ℕ) (t : List TemplateGate) (rs : List Pin) (l : Monoid op u) (k : Templated op bits t rs)
+    (a : Account) (m : ℕ) (gates : List Gate) (used : ℕ) (nets : List ℕ) (total : ℕ) (gs : List Gate) (ns : List ℕ) → Ordered a.columns a.joins
+    → expanded t rs a m gates used nets ≡ (number total, gs, ns) → Computes op u bits (length rs) a m (take used gates) nets (take total gs) ns
+expansion_computes op u bits t rs l k a m gates used nets total gs ns o e =
+    let new : List Gate × List ℕ = (written gates used (appended t rs (m + used) (column_nets rs a nets) a.joins), wired t rs (m + used) (column_nets rs a nets) a.joins) in
+    let p = number_tables (admitted t rs a m gates used nets) new (gates, nets) total gs ns e in
+    computed op u bits t rs l k a m gates used nets total gs ns o p.0 p.1 p.2

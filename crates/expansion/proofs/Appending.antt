@@ -24,7 +24,7 @@ drop_written xs ys p k h e =
     ∙ drop-append-drop (p + length ys) xs (take p xs ++ ys) k e (length-append (take p xs) ys ∙ omega (arith, length-take-le p xs h))
 
 -- what is written next, right behind
-written_more : {X : Type 0} (xs ys zs : List X) (p k size : ℕ) → p ≤ length xs → k ≡ p + length ys → length zs ≡ size → put_mid k size (written xs p ys) zs ≡ written xs p (ys ++ zs)
+pub written_more : {X : Type 0} (xs ys zs : List X) (p k size : ℕ) → p ≤ length xs → k ≡ p + length ys → length zs ≡ size → put_mid k size (written xs p ys) zs ≡ written xs p (ys ++ zs)
 written_more xs ys zs p k size h e f =
     part_written k size (written xs p ys) zs zs refl f
     ∙ ap (λ l. l ++ (zs ++ drop (k + length zs) (written xs p ys))) (take_written xs ys p k h (sym e))

@@ -19,6 +19,7 @@ use Rattle.meaning.specs.declared.block.Block.TheVariants.{Adder}
 use Rattle.meaning.specs.Numbers.{value, Bits}
 use Rattle.meaning.specs.Meaning.{second, Adds}
 use Rattle.meaning.specs.Layout.{adder_leaf, column_net, column_nets, leaves, node_nets, net_at, first_end, block_gates, outputs_of}
+use Rattle.meaning.proofs.KindLaws.{carries}
 use Rattle.meaning.proofs.Signals.{is_set, input_bit, and_value, xor_value}
 use Rattle.meaning.proofs.Binary.{up_to, up_more, bit_from, front_made, rest_made, shows_made}
 use Rattle.meaning.proofs.Wiring.{Sheetly, start_kept, leaf_first, end_value, outputs_length, outputs_bits, outputs_made, output_value, shown}
@@ -59,13 +60,13 @@ module _ (a : Account) (sheet : Sheetly a) (inputs : List ℕ) (long : length in
   leaf : (i j p : ℕ) → i < a.columns → j < 2 → p ≡ 2 * a.columns + (2 * i + j) → get_or (signals inputs (leaves Adder a.columns)) p 0 ≡ get_or (carry_bits (column a.columns inputs i)) j 0
   leaf i j p lt h e =
       let q : (2 * i + j) / 2 ≡ i = omega arith in let r : (2 * i + j) % 2 ≡ j = omega arith in
-      leaf_first Adder a sheet tt inputs long (2 * i + j) p (omega arith) e
+      leaf_first Adder carries a sheet tt inputs long (2 * i + j) p (omega arith) e
       ∙ ap (value_over (signals inputs (leaves Adder a.columns))) (ap (λ k. adder_leaf a.columns k ((2 * i + j) % 2)) q ∙ ap (adder_leaf a.columns i) r)
       ∙ gate_is i j lt h
 
   -- whether column i passes a carry on
   passes : (i p : ℕ) → i < a.columns → p ≡ 2 * a.columns + (2 * i + 1) → get_or (signals inputs (block_gates Adder a)) p 0 ≡ bit_of (column a.columns inputs i).propagate
-  passes i p lt e = start_kept Adder a sheet tt inputs long p (omega arith) ∙ leaf i 1 p lt (omega arith) e
+  passes i p lt e = start_kept Adder carries a sheet tt inputs long p (omega arith) ∙ leaf i 1 p lt (omega arith) e
 
   shows : Shows carry_bits carry_unit 2 (signals inputs (leaves Adder a.columns)) (column_nets Adder a.columns) (columns a.columns inputs)
   shows =
@@ -73,7 +74,7 @@ module _ (a : Account) (sheet : Sheetly a) (inputs : List ℕ) (long : length in
       (λ v j lt h. leaf v j (2 * a.columns + (v * 2 + j)) lt h (omega arith) ∙ ap (λ x. get_or (carry_bits x) j 0) (sym (column_at a.columns inputs v lt)))
 
   carried : (i : ℕ) → i < a.columns → get_or (signals inputs (block_gates Adder a)) (net_at 2 a (node_nets Adder a) i 0) 0 ≡ bit_of (carry a.columns inputs (i + 1))
-  carried i lt = shown Adder a sheet tt inputs long (columns a.columns inputs) (columns_length a.columns inputs) shows i 0 lt (omega arith)
+  carried i lt = shown Adder carries a sheet tt inputs long (columns a.columns inputs) (columns_length a.columns inputs) shows i 0 lt (omega arith)
 
   -- each buffer
   output_is : (k : ℕ) → k < a.columns + 1 → get_or (outputs_of Adder a.columns inputs (block_gates Adder a)) k 0 ≡ added a.columns inputs k
@@ -88,18 +89,18 @@ module _ (a : Account) (sheet : Sheetly a) (inputs : List ℕ) (long : length in
       let inner : 0 < k → k < N → get_or vs (first_of + (k - 1)) 0 ≡ sum_bit N inputs k =
       λ nz l.
       let up : k - 1 + 1 ≡ k = omega arith in
-      end_value Adder a sheet tt inputs long (k - 1) (first_of + (k - 1)) (omega arith) refl
+      end_value Adder carries a sheet tt inputs long (k - 1) (first_of + (k - 1)) (omega arith) refl
       ∙ xor_value (column N inputs k).propagate (carry N inputs k) (get_or vs (2 * N + 2 * (k - 1 + 1) + 1) 0) (get_or vs (net (k - 1) 0) 0)
       (passes k (2 * N + 2 * (k - 1 + 1) + 1) l (omega arith))
       (carried (k - 1) (omega arith) ∙ ap (λ i. bit_of (carry N inputs i)) up) in
       let last : get_or vs (net (N - 1) 0) 0 ≡ bit_of (carry N inputs N) =
       let up : N - 1 + 1 ≡ N = omega arith in
       carried (N - 1) (omega arith) ∙ ap (λ i. bit_of (carry N inputs i)) up in
-      output_value Adder a sheet tt inputs long bs k lt ∙ grind (arith, nat_tests)
+      output_value Adder carries a sheet tt inputs long bs k lt ∙ grind (arith, nat_tests)
 
   pub adder_outputs : outputs_of Adder a.columns inputs (block_gates Adder a) ≡ map (added a.columns inputs) (range_with_len 0 (a.columns + 1))
   adder_outputs =
-      outputs_made Adder a sheet tt inputs long (added a.columns inputs) output_is
+      outputs_made Adder carries a sheet tt inputs long (added a.columns inputs) output_is
 
 -- one column adds two bits and the carry into it
 adds : (x y : Bool) (z : Carry) → bit_of x + bit_of y + bit_of z.generate
@@ -131,7 +132,7 @@ pub adder_means : (a : Account) → Sheetly a → (inputs : List ℕ) → length
 adder_means a sheet inputs long bs =
     let n : ℕ = a.columns in
     let out : List ℕ = outputs_of Adder n inputs (block_gates Adder a) in
-    let size : length out ≡ n + 1 = outputs_length Adder a sheet tt inputs long in
+    let size : length out ≡ n + 1 = outputs_length Adder carries a sheet tt inputs long in
     let at : (k : ℕ) → k < n + 1 → get_or out k 0 ≡ added n inputs k = output_is a sheet inputs long bs in
     let sum_is : take n out ≡ map (sum_bit n inputs) (range_with_len 0 n) =
     fill_by_all (sum_bit n inputs) (take n out) n 0 (length-take-le n out (omega arith))
@@ -139,7 +140,7 @@ adder_means a sheet inputs long bs =
     let last-is : get_or out n 0 ≡ bit_of (carry n inputs n) = at n (omega arith) ∙ (let t : ltb n n ≡ false = le-ltb n n (omega arith) in rw t) in
     record {
       wide = size;
-      bits = outputs_bits Adder a sheet tt inputs long bs;
+      bits = outputs_bits Adder carries a sheet tt inputs long bs;
       sum = ap (λ t. value t + second n inputs) (front_made inputs n bs (omega arith))
           ∙ ap (λ t. up_to (bit_from inputs 0) n + value t) (rest_made inputs n n bs (omega arith))
           ∙ sums n inputs n (omega arith)

@@ -7,6 +7,7 @@ use Rattle.meaning.specs.declared.block.Block.{Block}
 use Rattle.meaning.specs.declared.block.Block.TheVariants.{Adder, Comparator, GrayDecoder, Machine as MachineBlock}
 use Rattle.meaning.specs.Numbers.{Bits}
 use Rattle.meaning.specs.Layout.{input_count, output_count, gate_count, block_gates, outputs_of, Computes}
+use Rattle.meaning.proofs.KindLaws.{kind_of}
 use Rattle.meaning.proofs.Rules.{Starts}
 use Rattle.meaning.proofs.Wiring.{Sheetly, block_length, block_good}
 use Rattle.meaning.proofs.Adding.{added, adder_outputs, adder_means}
@@ -15,10 +16,10 @@ use Rattle.meaning.proofs.Decoding.{decoded, gray_outputs, gray_means}
 use Rattle.meaning.proofs.Following.{followed, machine_outputs, machine_means}
 
 pub length_is : (b : Block) (a : Account) → Sheetly a → Starts b → length (block_gates b a) ≡ gate_count b a
-length_is = block_length
+length_is b a s t = block_length b (kind_of b) a s t
 
 pub all_good : (b : Block) (a : Account) → Sheetly a → Starts b → good_from (input_count b a.columns) (block_gates b a) ≡ length (block_gates b a)
-all_good = block_good
+all_good b a s t = block_good b (kind_of b) a s t
 
 -- what output k of a block of n columns carries, on any sheet
 abbrev expected : Block → ℕ → List ℕ → ℕ → ℕ

@@ -40,7 +40,7 @@ rest_made xs n c b h =
     fill_by_all (bit_from xs n) (drop n xs) c 0 (length-drop n xs ∙ omega arith) (λ k lt. get_or-drop n xs k 0 ∙ set_bit xs (n + k) b)
 
 -- the nets of node v among nets made by their place
-nets_made : (f : ℕ → ℕ) (n w v : ℕ) → v < n → nets_of w (map f (range_with_len 0 (n * w))) v ≡ map (λ j. f (v * w + j)) (range_with_len 0 w)
+pub nets_made : (f : ℕ → ℕ) (n w v : ℕ) → v < n → nets_of w (map f (range_with_len 0 (n * w))) v ≡ map (λ j. f (v * w + j)) (range_with_len 0 w)
 nets_made f n w v lt =
     let C : List ℕ = map f (range_with_len 0 (n * w)) in
     let room : v * w + w ≤ n * w = row_in v n w lt in

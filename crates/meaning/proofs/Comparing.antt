@@ -15,7 +15,7 @@ use Rattle.meaning.specs.declared.block.Block.TheVariants.{Comparator}
 use Rattle.meaning.specs.Numbers.{value, Bits}
 use Rattle.meaning.specs.Meaning.{first, second, Compares}
 use Rattle.meaning.specs.Layout.{comparator_leaf, column_net, column_nets, leaves, block_gates, outputs_of}
-use Rattle.meaning.proofs.KindLaws.{verdict_wide}
+use Rattle.meaning.proofs.KindLaws.{verdict_wide, verdicts}
 use Rattle.meaning.proofs.Signals.{is_set, input_bit, not_value, and_value}
 use Rattle.meaning.proofs.Binary.{up_to, up_more, up_small, bit_from, front_made, rest_made, shows_made}
 use Rattle.meaning.proofs.Wiring.{Sheetly, leaf_first, outputs_made, output_value, shown}
@@ -45,7 +45,7 @@ module _ (a : Account) (sheet : Sheetly a) (inputs : List ℕ) (long : length in
       → get_or (signals inputs (leaves Comparator a.columns)) p 0 ≡ value_over (signals inputs (leaves Comparator a.columns)) (comparator_leaf a.columns i j)
   leaf i j p lt h e =
       let q : (4 * i + j) / 4 ≡ i = omega arith in let r : (4 * i + j) % 4 ≡ j = omega arith in
-      leaf_first Comparator a sheet tt inputs long (4 * i + j) p (omega arith) (omega arith)
+      leaf_first Comparator verdicts a sheet tt inputs long (4 * i + j) p (omega arith) (omega arith)
       ∙ ap (value_over (signals inputs (leaves Comparator a.columns)))
       (ap (λ k. comparator_leaf a.columns k ((4 * i + j) % 4)) q ∙ ap (comparator_leaf a.columns i) r)
 
@@ -75,13 +75,13 @@ module _ (a : Account) (sheet : Sheetly a) (inputs : List ℕ) (long : length in
   output_is k lt =
       let N : ℕ = a.columns in
       let up : N - 1 + 1 ≡ N = omega (arith, sheet.some) in
-      output_value Comparator a sheet tt inputs long bs k lt
-      ∙ shown Comparator a sheet tt inputs long (columns N inputs) (columns_length N inputs) shows (N - 1) k (omega (arith, sheet.some)) lt
+      output_value Comparator verdicts a sheet tt inputs long bs k lt
+      ∙ shown Comparator verdicts a sheet tt inputs long (columns N inputs) (columns_length N inputs) shows (N - 1) k (omega (arith, sheet.some)) lt
       ∙ ap (λ i. get_or (verdict_bits (fold verdict_product verdict_unit (take i (columns N inputs)))) k 0) up
 
   pub comparator_outputs : outputs_of Comparator a.columns inputs (block_gates Comparator a) ≡ map (ordered a.columns inputs) (range_with_len 0 2)
   comparator_outputs =
-      outputs_made Comparator a sheet tt inputs long (ordered a.columns inputs) output_is
+      outputs_made Comparator verdicts a sheet tt inputs long (ordered a.columns inputs) output_is
 
 -- how two numbers compare
 abbrev order : ℕ → ℕ → Verdict

@@ -14,6 +14,7 @@ use Rattle.meaning.specs.declared.block.Block.TheVariants.{GrayDecoder}
 use Rattle.meaning.specs.Numbers.{value, Bits}
 use Rattle.meaning.specs.Meaning.{Decodes}
 use Rattle.meaning.specs.Layout.{column_net, column_nets, leaves, block_gates, outputs_of}
+use Rattle.meaning.proofs.KindLaws.{parities}
 use Rattle.meaning.proofs.Signals.{is_set, set_bit}
 use Rattle.meaning.proofs.Binary.{bit_from, front_made, shows_made}
 use Rattle.meaning.proofs.Gray.{gray, gray_more, differ_of, gray_only}
@@ -54,13 +55,13 @@ module _ (a : Account) (sheet : Sheetly a) (inputs : List ℕ) (long : length in
   output_is k lt =
       let N : ℕ = a.columns in
       let up : N - 1 - k + 1 ≡ N - k = omega arith in
-      output_value GrayDecoder a sheet tt inputs long bs k lt
-      ∙ shown GrayDecoder a sheet tt inputs long (columns N inputs) (columns_length N inputs) shows (N - 1 - k) 0 (omega arith) (omega arith)
+      output_value GrayDecoder parities a sheet tt inputs long bs k lt
+      ∙ shown GrayDecoder parities a sheet tt inputs long (columns N inputs) (columns_length N inputs) shows (N - 1 - k) 0 (omega arith) (omega arith)
       ∙ ap (λ i. bit_of (fold parity_product parity_unit (take i (columns N inputs)))) up
 
   pub gray_outputs : outputs_of GrayDecoder a.columns inputs (block_gates GrayDecoder a) ≡ map (decoded a.columns inputs) (range_with_len 0 a.columns)
   gray_outputs =
-      outputs_made GrayDecoder a sheet tt inputs long (decoded a.columns inputs) output_is
+      outputs_made GrayDecoder parities a sheet tt inputs long (decoded a.columns inputs) output_is
 
 -- a bit of the number is that of the code and the number's next bit
 parity_more : (n : ℕ) (inputs : List ℕ) (k : ℕ) → k < n → parity n inputs k ≡ parity_product (parity n inputs (k + 1)) (is_set inputs k)
@@ -101,8 +102,8 @@ gray_means a sheet inputs long bs =
     let all : value inputs ≡ value (map (bit_from inputs 0) (range_with_len 0 n)) = ap value (sym (take_all n inputs (omega arith)) ∙ front_made inputs n bs (omega arith)) in
     let number : gray (value out) ≡ value inputs = ap (λ t. gray (value t)) (gray_outputs a sheet inputs long bs) ∙ code n inputs 0 n (omega arith) ∙ sym all in
     record {
-      wide = outputs_length GrayDecoder a sheet tt inputs long;
-      bits = outputs_bits GrayDecoder a sheet tt inputs long bs;
+      wide = outputs_length GrayDecoder parities a sheet tt inputs long;
+      bits = outputs_bits GrayDecoder parities a sheet tt inputs long bs;
       code = number;
       only = λ b e. gray_only b (value out) (e ∙ sym number);
     }

@@ -17,6 +17,7 @@ use Rattle.meaning.specs.declared.block.Block.TheVariants.{Machine as MachineBlo
 use Rattle.meaning.specs.Numbers.{Bits}
 use Rattle.meaning.specs.Meaning.{state_of, map_of, follow, state_after, Follows}
 use Rattle.meaning.specs.Layout.{symbol_gate, machine_leaf, column_net, column_nets, leaves, block_gates, outputs_of}
+use Rattle.meaning.proofs.KindLaws.{maps}
 use Rattle.meaning.proofs.Signals.{input_kept, small}
 use Rattle.meaning.proofs.Binary.{shows_made}
 use Rattle.meaning.proofs.Wiring.{Sheetly, leaf_first, outputs_length, outputs_bits, outputs_made, output_value, shown}
@@ -53,7 +54,7 @@ module _ (m : Machine) (starts : m.start ≤ 3) (a : Account) (sheet : Sheetly a
       let s : List ℕ = signals inputs (leaves (MachineBlock m) a.columns) in
       let v : ℕ = get_or inputs i 0 in
       let q : (i * 8 + j) / 8 ≡ i = omega arith in let r : (i * 8 + j) % 8 ≡ j = omega arith in
-      leaf_first (MachineBlock m) a sheet starts inputs long (i * 8 + j) (a.columns + (i * 8 + j)) (omega arith) refl
+      leaf_first (MachineBlock m) maps a sheet starts inputs long (i * 8 + j) (a.columns + (i * 8 + j)) (omega arith) refl
       ∙ ap (value_over s) (ap (λ k. machine_leaf m k ((i * 8 + j) % 8)) q ∙ ap (machine_leaf m i) r)
       ∙ symbol_value s i (get_or (map_bits m.zero) j 0) (get_or (map_bits m.one) j 0) v (map_small m.zero j) (map_small m.one j) (small inputs i bs)
       (input_kept inputs (leaves (MachineBlock m) a.columns) i (omega arith))
@@ -67,13 +68,13 @@ module _ (m : Machine) (starts : m.start ≤ 3) (a : Account) (sheet : Sheetly a
 
   output_is : (k : ℕ) → k < 2 * a.columns → get_or (outputs_of (MachineBlock m) a.columns inputs (block_gates (MachineBlock m) a)) k 0 ≡ followed m inputs k
   output_is k lt =
-      output_value (MachineBlock m) a sheet starts inputs long bs k lt
-      ∙ shown (MachineBlock m) a sheet starts inputs long (columns m inputs) columns_length shows
+      output_value (MachineBlock m) maps a sheet starts inputs long bs k lt
+      ∙ shown (MachineBlock m) maps a sheet starts inputs long (columns m inputs) columns_length shows
       (k / 2) (2 * m.start + k % 2) (omega arith) (omega arith)
 
   pub machine_outputs : outputs_of (MachineBlock m) a.columns inputs (block_gates (MachineBlock m) a) ≡ map (followed m inputs) (range_with_len 0 (2 * a.columns))
   machine_outputs =
-      outputs_made (MachineBlock m) a sheet starts inputs long (followed m inputs) output_is
+      outputs_made (MachineBlock m) maps a sheet starts inputs long (followed m inputs) output_is
 
 entry_product : (l h : Map) (s : State) → entry_at (map_product l h) s ≡ entry_at h (entry_at l s)
 entry_product l h s = search rules
@@ -110,8 +111,8 @@ machine_means m starts a sheet inputs long bs =
     ∙ ap (λ k. get_or (map_bits (product m inputs k)) (2 * m.start + (2 * i + j) % 2) 0) q
     ∙ ap (λ k. get_or (map_bits (product m inputs i)) (2 * m.start + k) 0) r in
     record {
-      wide = outputs_length (MachineBlock m) a sheet starts inputs long;
-      bits = outputs_bits (MachineBlock m) a sheet starts inputs long bs;
+      wide = outputs_length (MachineBlock m) maps a sheet starts inputs long;
+      bits = outputs_bits (MachineBlock m) maps a sheet starts inputs long bs;
       states = λ i lt.
           let both = entry_bits (product m inputs i) m.start starts in
           let z : 2 * i ≡ 2 * i + 0 = omega arith in

@@ -1,5 +1,5 @@
 -- The gates of any block on any covered sheet: they are good, its buffers pass their signals on, and its output nets show the products.
-use Rattle.std.proofs.Common.{◌≡◌, ℕ, ◌+◌, ◌-◌, ◌*◌, ◌<◌, ◌≤◌, List, [], ◌∷◌, ◌++◌, map, length, get_or, take, drop, Some, fold, All, unwrap_or, sym, ap, ◌∙◌, subst, add-mul, arith}
+use Rattle.std.proofs.Common.{◌≡◌, ℕ, ◌+◌, ◌-◌, ◌*◌, ◌<◌, ◌≤◌, List, [], ◌∷◌, ◌++◌, map, length, get_or, take, drop, Some, fold, All, unwrap_or, sym, refl, ap, ◌∙◌, subst, add-mul, arith}
 use Rattle.std.specs.List.{range_with_len}
 use Rattle.std.proofs.lemmas.List.FromFn.{length-map-range_with_len, get_or-map-range_with_len, fill_by_all}
 use Rattle.std.proofs.lemmas.List.Elements.{All-from_get_or, All-get_or, All-drop}
@@ -24,7 +24,7 @@ use Rattle.meaning.specs.declared.block.Block.{Block}
 use Rattle.meaning.specs.Numbers.{Bits}
 use Rattle.meaning.specs.Layout.{template, results, width, input_count, leaf_count, end_count, output_count, leaf_gate, column_net, end_gate, output_net, leaves, column_nets, base, join_gates, node_nets, net_at, first_end, end_gates, buffers, buffer, block_gates, gate_count, outputs_of}
 use Rattle.meaning.proofs.Signals.{good_made, part_value, front_kept, signal_small, signals_bits, pass_value}
-use Rattle.meaning.proofs.KindLaws.{KindOf, kind_of}
+use Rattle.meaning.proofs.KindLaws.{KindOf}
 use Rattle.meaning.proofs.Rules.{Starts, Keeps, keeps, good_buffer}
 
 length_wired : (t : List TemplateGate) (rs : List Pin) (start : ℕ) (nets : List ℕ) (ps : List Pair) → length (wired t rs start nets ps) ≡ length nets + length ps * length rs
@@ -40,10 +40,7 @@ pub record Sheetly (a : Account) : Type 0 where
   pub ordered : Ordered a.columns a.joins
   pub covered : Covered a
 
-module _ (b : Block) (a : Account) (sheet : Sheetly a) (starts : Starts b) where
-  abbrev kind : KindOf (template b) (results b)
-  kind = kind_of b
-
+module _ (b : Block) (kind : KindOf (template b) (results b)) (a : Account) (sheet : Sheetly a) (starts : Starts b) where
   rules : Keeps b a.columns
   rules = keeps b a.columns sheet.some starts
 
@@ -150,7 +147,14 @@ module _ (b : Block) (a : Account) (sheet : Sheetly a) (starts : Starts b) where
     start_kept p lt =
         front_kept inputs (leaves b a.columns) (join_gates b a ++ (end_gates b a (node_nets b a) ++ buffers b a (node_nets b a))) p (omega (arith, leaf_length))
 
-    -- leaf gate k
+    -- leaf gate k, among all signals and among those of the leaf gates alone
+    pub leaf_value : (k p : ℕ) → k < leaf_count b a.columns → p ≡ input_count b a.columns + k
+        → get_or (signals inputs (block_gates b a)) p 0 ≡ value_over (signals inputs (block_gates b a)) (leaf_gate b a.columns k)
+    unfolding block_gates
+    leaf_value k p lt e =
+        part_value inputs (block_gates b a) [] (join_gates b a ++ (end_gates b a (node_nets b a) ++ buffers b a (node_nets b a)))
+        (leaf_gate b a.columns) (leaf_count b a.columns) k p refl good_here lt (omega arith)
+
     pub leaf_first : (k p : ℕ) → k < leaf_count b a.columns → p ≡ input_count b a.columns + k
         → get_or (signals inputs (leaves b a.columns)) p 0 ≡ value_over (signals inputs (leaves b a.columns)) (leaf_gate b a.columns k)
     leaf_first k p lt e =

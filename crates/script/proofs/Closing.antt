@@ -34,7 +34,7 @@ closing_cases a c (suc k) =
     (λ (f : is_some (output_of a c) ≡ false). inr (c, rw f))
     (cases_Bool (is_some (output_of a c)))
 
-closed_is : (a b : Account) → closed_sheet b ≡ closed a → b ≡ a
+pub closed_is : (a b : Account) → closed_sheet b ≡ closed a → b ≡ a
 closed_is a b e =
     ⊎_elim
     (λ (t : closing a 0 a.columns ≡ closed_sheet a). cc)

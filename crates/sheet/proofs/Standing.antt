@@ -68,10 +68,10 @@ pub popped : (a b : Account) (k : ℕ) → 0 < length a.joins → k ≡ length a
     b ≡ record { columns = a.columns; joins = take (length a.joins - 1) a.joins } → (number k, b) ≡ undone a
 popped a b k h e f = rw (ne_eqb (length a.joins) 0 (omega arith), e, f)
 
-abbrev words_of : Sheet → List (List ℕ)
+abbrev pub words_of : Sheet → List (List ℕ)
 words_of s = words (account s).columns (account s).joins
 
-word_is : (s : Sheet) (v : ℕ) → v < s.table.count → get_or (words_of s) v [] ≡ interval (at s.table.nodes v)
+pub word_is : (s : Sheet) (v : ℕ) → v < s.table.count → get_or (words_of s) v [] ≡ interval (at s.table.nodes v)
 unfolding word
 word_is s v h = s.spelled v h
 
