@@ -38,18 +38,18 @@ impl Node {
         }
     }
 
-    // Whether a join takes a node.
+    // Whether a join takes a node. Here and below both tests are made before any branch: `||` and `&&` take longer.
     pub(crate) fn takes(&self, node: usize) -> bool
         ensures { result ≡ takes node (pair_of self.now) }
     {
-        self.low == node || self.high == node
+        (self.low == node) | (self.high == node)
     }
 
     // Whether it spells the columns from 0 to the given one.
     pub(crate) fn spells_to(&self, column: usize) -> bool
         ensures { result ≡ spells_to column self.now }
     {
-        self.first == 0 && self.last == column
+        (self.first == 0) & (self.last == column)
     }
 
     // The columns that it spells.

@@ -2,7 +2,6 @@ ghost use Rattle.std.specs.Prelude.{◌≡◌, ℕ, ◌+◌, ◌-◌, ◌<◌, �
 ghost use Rattle.sheet.specs.Spans.{Founded, Spelled, Upward, at, column, joins_of, standing_of};
 
 use crate::node::Node;
-use std::array;
 
 pub mod calls;
 pub mod closed;
@@ -35,10 +34,12 @@ impl Table {
         ensures spans { (v : ℕ) → v < n → at result.nodes v ≡ column v }
         ensures counted { result.count ≡ n }
     {
-        Table {
-            nodes: array::from_fn(Node::column),
-            count: n,
+        // Only the columns get their numbers: numbering all 1,088 records, by `array::from_fn`, takes longer.
+        let mut nodes = [Node::column(0); MOST_NODES];
+        for (v, node) in nodes[..n].iter_mut().enumerate() {
+            *node = Node::column(v);
         }
+        Table { nodes, count: n }
     }
 
     // The nodes that stand.
