@@ -31,6 +31,7 @@ Examples:
   printf 'open 8\\nlay 1\\nclose\\nrun parity 1 0 1 1 0 0 1 0\\n' | prefix sheet
 ";
 
+#[inline(never)]
 pub fn command(rt: &HostRuntime, rest: &[&str]) -> Result<(), Failure> {
     if !rest.is_empty() {
         return Err(Failure::usage(rt.alloc(), "help takes no word"));

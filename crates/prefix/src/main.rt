@@ -13,6 +13,7 @@ mod refused;
 mod running;
 mod scripting;
 mod serving;
+mod spaced;
 mod words;
 
 use failure::Failure;

@@ -1,7 +1,8 @@
 use crate::call::NoCall;
 use crate::no_answer::NoAnswer;
-use crate::notation::Notation;
+use crate::notation::{Notation, Written};
 use crate::refused::Refused;
+use crate::spaced::Spaced;
 use kinds::carry::Carries;
 use kinds::kind::Kind;
 use kinds::map::Maps;
@@ -15,11 +16,11 @@ use std::alloc::{AllocError, Global};
 
 // The elements as written, parted by one space.
 fn listed<K: Notation>(heap: Global, elements: &[K::Element]) -> Result<String, AllocError> {
-    let written: Vec<String> = elements
+    let written: Vec<Written> = elements
         .iter()
-        .map(|element| K::write(*element).to_string(heap))
-        .try_collect(heap)?;
-    written.as_slice().join(heap, " ")
+        .map(|element| K::write(*element))
+        .collect(heap)?;
+    Spaced(written.as_slice()).to_string(heap)
 }
 
 // Runs a closed sheet over elements, and answers every slot of the value list.

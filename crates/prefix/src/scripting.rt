@@ -1,5 +1,6 @@
 use crate::failure::Failure;
 use crate::no_answer::NoAnswer;
+use crate::spaced::Spaced;
 use crate::{serving, words};
 use script::drawing::Drawing;
 use std::fs;
@@ -35,8 +36,8 @@ fn line(rt: &HostRuntime, drawing: &mut Drawing, number: usize, text: &str) -> R
             return Err(Failure::unanswered(heap, place.as_str(), no));
         }
     };
-    let call = words.as_slice().join(heap, " ")?;
-    println!(rt; "{call} -> {told}")?;
+    // Word by word: a line joined first would take its length in memory once more.
+    println!(rt; "{} -> {told}", Spaced(words.as_slice()))?;
     Ok(())
 }
 
@@ -57,6 +58,7 @@ fn from_input(rt: &HostRuntime) -> Result<(), Failure> {
     Ok(())
 }
 
+#[inline(never)]
 pub fn command(rt: &HostRuntime, rest: &[&str]) -> Result<(), Failure> {
     match rest {
         [] => from_input(rt),
